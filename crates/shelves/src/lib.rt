@@ -1,0 +1,2 @@
+// Shelves: sources of lists that answer questions about their lists and entries.
+pub mod rows;
