@@ -1,0 +1,2 @@
+// Terms: the keys of term lists.
+pub mod key;
