@@ -139,7 +139,7 @@ number-front (a ∷ (b ∷ [])) h k = absurd (omega arith)
 number-front (a ∷ (b ∷ (c ∷ []))) h k = absurd (omega arith)
 number-front (a ∷ (b ∷ (c ∷ (d ∷ rest)))) h k = ap (λ (l : List ℕ). l ++ rest) (four-bytes a b c d (k 1) (k 2) (k 3))
 
-number-four : (n : ℕ) (rest : List ℕ) → number (fourBytes n ++ rest) ≡ n
+pub number-four : (n : ℕ) (rest : List ℕ) → number (fourBytes n ++ rest) ≡ n
 number-four n rest = omega arith
 
 range-true : (n : ℕ) → cond (leb 5 n) (leb n 36) false ≡ true → (5 ≤ n) × (n ≤ 36)

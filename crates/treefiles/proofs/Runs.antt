@@ -56,6 +56,10 @@ begun file l o b = record {
     opened : fileItems file ≡ items (suc (length file)) Opening 0 5 (drop 5 file)
     opened = rw o
 
+pub begun-done : (file : List ℕ) (l : Loader) (o : begins opening file ≡ true) (b : Begun file l) → begun file l o b .done ≡ []
+unfolding begun
+begun-done file l o b = refl
+
 module _ (file : List ℕ) (l : Loader) (run : Run file l) where
   abbrev next-here : Result (Option Item) Fault
   next-here = nextItem (l .stage) (l .entries) (l .at) (drop (l .at) file)
@@ -131,6 +135,10 @@ module _ (file : List ℕ) (l : Loader) (run : Run file l) where
   goes-on m r i e h =
       let g : Reads l m (Ok (Some i)) = subst (Reads l m) e h in
       moved m (itemRead i) (here (Ok (Some (itemRead i))) (g .0)) (g .1)
+
+  pub done-one-more : (m : Loader) (i : CodeItem) (h : Reads l m (Ok (Some i))) → goes-on m (Ok (Some i)) i refl h .done ≡ run .done ++ (itemRead i ∷ [])
+  unfolding goes-on moved
+  done-one-more m i h = refl
 
   pub comes-to-end : (m : Loader) (r : Result (Option CodeItem) Fault) → r ≡ Ok None → Reads l m r → (fileItems file ≡ Ok (run .done)) × (m ≡ l)
   comes-to-end m r e h = let g : Reads l m (Ok None) = subst (Reads l m) e h in (stopped (here (Ok None) (g .0)), g .1)

@@ -1,3 +1,4 @@
+pub mod Filling
 pub mod Format
 pub mod Reader
 pub mod Loading
