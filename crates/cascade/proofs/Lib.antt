@@ -1,0 +1,9 @@
+pub mod Counts
+pub mod Order
+pub mod Searching
+pub mod Numbering
+pub mod Augmenting
+pub mod Spacing
+pub mod Merging
+pub mod Ordering
+pub mod Parts

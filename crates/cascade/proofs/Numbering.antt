@@ -1,0 +1,60 @@
+-- Filters and counts of numbers in a row, a .. a + n - 1, and of lists whose elements are numbered so.
+use mathlib.Core.Path.{_≡_, refl, sym, ap, subst, _∙_}
+use mathlib.Core.Bool.{Bool, true, false, cond}
+use mathlib.Core.List.{List, [], _∷_, _++_, map}
+use Prim.Native.Nat.{ℕ, zero, suc, _+_, _-_, _<_, _≤_}
+use native.Mathlib.Nat.{zero-add, add-zero, add-suc, suc-add}
+use native.Mathlib.Numerals.{one-add}
+use native.Mathlib.Omega.{arith}
+use lib.ListN.{length, take, getD}
+use Rattle.std.specs.Iters.{counting}
+use Rattle.std.specs.shelf.Lists.{kept-by}
+use Rattle.std.proofs.shelf.Tests.{both-ways}
+use Rattle.orders.specs.Places.{bit, count}
+
+-- a step from the number u to the next
+pub next : {Y : Type 0} (f : ℕ → Y) (u k : ℕ) → f (u + suc k) ≡ f (u + 1 + k)
+next f u k = ap f (omega arith)
+
+module _ (f : ℕ → Bool) where
+  -- numbers that fail at the front
+  pub kept-skip : (a m n : ℕ) → ((w : ℕ) → a ≤ w → w < a + m → f w ≡ false) → kept-by f (counting a (m + n)) ≡ kept-by f (counting (a + m) n)
+  kept-skip a zero n h = rw (zero-add, add-zero)
+  kept-skip a (suc m) n h =
+      let ih = kept-skip (a + 1) m n (λ w l g. h w (omega arith) (omega arith)) in
+      rw (suc-add, h a (omega arith) (omega arith)) (ih ∙ ap (λ u. kept-by f (counting u n)) (omega arith))
+
+  -- what passes is found at the number of those before it that pass
+  pub kept-at : (a n k d : ℕ) → k < n → f (a + k) ≡ true
+      → (getD (kept-by f (counting a n)) (count f (counting a k)) d ≡ a + k) × (count f (counting a k) < length (kept-by f (counting a n)))
+  kept-at a zero k d h e = absurd (omega arith)
+  kept-at a (suc n) zero d h e =
+      let g : f a ≡ true = ap f (sym (add-zero a)) ∙ e in
+      rw g (sym (add-zero a), omega arith)
+  kept-at a (suc n) (suc k) d h e =
+      let ih = kept-at (a + 1) n k d (omega arith) (sym (next f a k) ∙ e) in
+      elim (f a) as (λ b. (getD (cond b (a ∷ kept-by f (counting (a + 1) n)) (kept-by f (counting (a + 1) n))) (bit b + count f (counting (a + 1) k)) d ≡ a + suc k)
+      × (bit b + count f (counting (a + 1) k) < length (cond b (a ∷ kept-by f (counting (a + 1) n)) (kept-by f (counting (a + 1) n))))) [
+        | true ↦ (rw one-add (ih .0 ∙ omega arith), omega arith)
+        | false ↦ (rw zero-add (ih .0 ∙ omega arith), omega arith)
+      ]
+
+module _ {X : Type 0} (d : X) where
+  -- xs are the values of p at the numbers from u on
+  abbrev pub Numbered : {Y : Type 0} → (X → Y) → (ℕ → Y) → ℕ → List X → Type 0
+  Numbered g p u xs = (k : ℕ) → k < length xs → p (u + k) ≡ g (getD xs k d)
+
+  pub numbered-tail : {Y : Type 0} (g : X → Y) (p : ℕ → Y) (u : ℕ) (x : X) (xs : List X) → Numbered g p u (x ∷ xs) → Numbered g p (u + 1) xs
+  numbered-tail g p u x xs h k l = sym (next p u k) ∙ h (suc k) (omega arith)
+
+  pub numbered-head : {Y : Type 0} (g : X → Y) (p : ℕ → Y) (u : ℕ) (x : X) (xs : List X) → Numbered g p u (x ∷ xs) → p u ≡ g x
+  numbered-head g p u x xs h = ap p (sym (add-zero u)) ∙ h 0 (omega arith)
+
+  pub count-numbered : {Y : Type 0} (g : X → Y) (p : ℕ → Y) (f : Y → Bool) (u k : ℕ) (xs : List X) → k ≤ length xs → Numbered g p u xs
+      → count (λ x. f (g x)) (take k xs) ≡ count (λ w. f (p w)) (counting u k)
+  count-numbered g p f u zero xs l h = refl
+  count-numbered g p f u (suc k) [] l h = absurd (omega arith)
+  count-numbered g p f u (suc k) (x ∷ xs) l h =
+      let ih = count-numbered g p f (u + 1) k xs (omega arith) (numbered-tail g p u x xs h) in
+      let e : bit (f (p u)) ≡ bit (f (g x)) = ap (λ y. bit (f y)) (numbered-head g p u x xs h) in
+      omega arith
