@@ -12,13 +12,13 @@ use Rattle.std.specs.shelf.Lists.{kept-by, sumBy}
 use Rattle.std.specs.declared.cmp.Ordering.{Ordering}
 use Rattle.std.proofs.shelf.Lists.{getD-drop}
 use Rattle.std.proofs.shelf.Sums.{sumBy-cons}
-use Rattle.std.proofs.shelf.Tests.{eq-eqb, ne-eqb}
+use Rattle.std.proofs.shelf.Tests.{eq-eqb, ne-eqb, eqb-true}
 use Rattle.orders.specs.Places.{count}
 use Rattle.cascade.specs.Lists.{samples, sort}
 use Rattle.cascade.specs.Trees.{KeyTree, Tagged, ownSource, childSource, parentOf, keysAt, ParentsSmaller, childrenOf, ordinal, keysOf, tag, tagAll, notAbove, augment, childSamples, augmentedFrom, augmentedLists, augmented}
 use Rattle.cascade.specs.Theorems.{Lengths}
 use Rattle.cascade.proofs.Counts.{length-sort, length-samples}
-use Rattle.cascade.proofs.Numbering.{kept-skip, kept-at, Numbered, numbered-tail, numbered-head, count-numbered}
+use Rattle.cascade.proofs.Numbering.{kept-skip, kept-at, kept-back, Numbered, numbered-tail, numbered-head, count-numbered}
 
 module _ {K : Type 0} (order : K → K → Ordering) where
   pub length-augmentedFrom : (u : ℕ) (bs : KeyTree K) → length (augmentedFrom order u bs) ≡ length bs
@@ -26,7 +26,7 @@ module _ {K : Type 0} (order : K → K → Ordering) where
   length-augmentedFrom u (b ∷ bs) = ap suc (length-augmentedFrom (suc u) bs)
 
   -- list u + k comes of the lists behind it
-  from-at : (u : ℕ) (bs : KeyTree K) (k : ℕ) → k < length bs
+  pub from-at : (u : ℕ) (bs : KeyTree K) (k : ℕ) → k < length bs
       → getD (augmentedFrom order u bs) k [] ≡ augment order (getD bs k (0, []) .1) (childSamples (u + k) (drop (suc k) bs) (drop (suc k) (augmentedFrom order u bs)))
   from-at u [] k h = absurd (omega arith)
   from-at u (b ∷ bs) zero h = ap (λ n. augment order (b .1) (childSamples n bs (augmentedFrom order (suc u) bs))) (sym (add-zero u))
@@ -74,18 +74,39 @@ module _ {K : Type 0} (order : K → K → Ordering) (t : KeyTree K) (smaller : 
       ∙ ap (λ n. map (λ w. samples (keysOf (augmented order t w))) (kept-by (λ w. eqb (parentOf t w) v) (counting (suc v) n))) (length-drop (suc v) t)
       ∙ ap (map (λ w. samples (keysOf (augmented order t w)))) (sym (children-behind v h ∙ ap (λ n. kept-by (λ w. eqb (parentOf t w) v) (counting n (length t - suc v))) (omega arith))))
 
+  ordinal-count : (w : ℕ) → 0 < w → w < length t → ordinal t w ≡ count (λ u. eqb (parentOf t u) (parentOf t w)) (counting 1 (w - 1))
+  ordinal-count w z h =
+      let l : length (drop 1 t) ≡ length t - 1 = length-drop 1 t in
+      count-numbered (0, []) (λ b. b .0) (parentOf t) (λ p. eqb p (parentOf t w)) 1 (w - 1) (drop 1 t) (omega arith)
+      (λ k m. ap (λ b. b .0) (sym (getD-drop 1 t k (0, []))))
+
   -- a child is found under its ordinal
   pub child-at : (w : ℕ) → 0 < w → w < length t
       → (getD (childrenOf t (parentOf t w)) (ordinal t w) 0 ≡ w) × (ordinal t w < length (childrenOf t (parentOf t w)))
   child-at w z h =
       let f : ℕ → Bool = λ u. eqb (parentOf t u) (parentOf t w) in
       let e : 1 + (w - 1) ≡ w = omega arith in
-      let l : length (drop 1 t) ≡ length t - 1 = length-drop 1 t in
-      let o : ordinal t w ≡ count f (counting 1 (w - 1)) =
-      count-numbered (0, []) (λ b. b .0) (parentOf t) (λ p. eqb p (parentOf t w)) 1 (w - 1) (drop 1 t) (omega arith)
-      (λ k m. ap (λ b. b .0) (sym (getD-drop 1 t k (0, [])))) in
+      let o = ordinal-count w z h in
       let r = kept-at f 1 (length t - 1) (w - 1) 0 (omega arith) (ap f e ∙ eq-eqb (parentOf t w) (parentOf t w) refl) in
       (ap (λ n. getD (childrenOf t (parentOf t w)) n 0) o ∙ r .0 ∙ e, omega arith)
+
+  -- and each ordinal below the number of children is a child's
+  pub child-back : (v j : ℕ) → j < length (childrenOf t v) → (w : ℕ) × (0 < w) × (w < length t) × (parentOf t w ≡ v) × (ordinal t w ≡ j)
+  child-back v j h =
+      let r = kept-back (λ u. eqb (parentOf t u) v) 1 (length t - 1) j 0 h in
+      let k = r .0 in
+      let l = r .1 in
+      let p : parentOf t (1 + k) ≡ v = eqb-true (parentOf t (1 + k)) v (r .3) in
+      let e : 1 + k - 1 ≡ k = omega arith in (
+        1 + k,
+        omega arith,
+        omega arith,
+        p,
+        ordinal-count (1 + k) (omega arith) (omega arith)
+            ∙ ap (λ n. count (λ u. eqb (parentOf t u) (parentOf t (1 + k))) (counting 1 n)) e
+            ∙ ap (λ x. count (λ u. eqb (parentOf t u) x) (counting 1 k)) p
+            ∙ r .4,
+      )
 
 length-tagAll : {K : Type 0} {W : Type 0} (f : W → List K) (j : ℕ) (ws : List W) → length (tagAll j (map f ws)) ≡ sumBy (λ w. length (f w)) ws
 length-tagAll f j [] = refl

@@ -7,3 +7,6 @@ pub mod Spacing
 pub mod Merging
 pub mod Ordering
 pub mod Parts
+pub mod Bridges
+pub mod Words
+pub mod Walking

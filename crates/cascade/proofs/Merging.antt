@@ -80,12 +80,12 @@ module _ {X : Type 0} (le : X → X → Bool)
   low-samples z (a ∷ (b ∷ (c ∷ []))) l = tt
   low-samples z (a ∷ (b ∷ (c ∷ (d ∷ xs)))) l = (l .1 .1 .1 .0, low-samples z xs (l .1 .1 .1 .1))
 
-  pub sample-sorted : (xs : List X) → Sorted le xs → Sorted le (samples xs)
-  sample-sorted [] s = tt
-  sample-sorted (a ∷ []) s = tt
-  sample-sorted (a ∷ (b ∷ [])) s = tt
-  sample-sorted (a ∷ (b ∷ (c ∷ []))) s = tt
-  sample-sorted (a ∷ (b ∷ (c ∷ (d ∷ xs)))) s = (low-samples d xs (s .1 .1 .1 .0), sample-sorted xs (s .1 .1 .1 .1))
+  pub samples-sorted : (xs : List X) → Sorted le xs → Sorted le (samples xs)
+  samples-sorted [] s = tt
+  samples-sorted (a ∷ []) s = tt
+  samples-sorted (a ∷ (b ∷ [])) s = tt
+  samples-sorted (a ∷ (b ∷ (c ∷ []))) s = tt
+  samples-sorted (a ∷ (b ∷ (c ∷ (d ∷ xs)))) s = (low-samples d xs (s .1 .1 .1 .0), samples-sorted xs (s .1 .1 .1 .1))
 
   -- a filter of a list put in order is the filtered list put in order
   low-kept-by : (g : X → Bool) (z : X) (ys : List X) → Low le z ys → Low le z (kept-by g ys)

@@ -39,6 +39,25 @@ module _ (f : ℕ → Bool) where
         | false ↦ (rw zero-add (ih .0 ∙ omega arith), omega arith)
       ]
 
+  -- and what is found passes
+  pub kept-back : (a n j d : ℕ) → j < length (kept-by f (counting a n))
+      → (k : ℕ) × (k < n) × (getD (kept-by f (counting a n)) j d ≡ a + k) × (f (a + k) ≡ true) × (count f (counting a k) ≡ j)
+  kept-back a zero j d h = absurd (omega arith)
+  kept-back a (suc n) j d h = go (kept-back (a + 1) n) (f a) refl j h
+    where
+      go : ((i e : ℕ) → i < length (kept-by f (counting (a + 1) n)) → (k : ℕ) × (k < n) × (getD (kept-by f (counting (a + 1) n)) i e ≡ a + 1 + k) × (f (a + 1 + k) ≡ true) × (count f (counting (a + 1) k) ≡ i))
+          → (c : Bool) → f a ≡ c → (i : ℕ) → i < length (cond c (a ∷ kept-by f (counting (a + 1) n)) (kept-by f (counting (a + 1) n)))
+          → (k : ℕ) × (k < suc n) × (getD (cond c (a ∷ kept-by f (counting (a + 1) n)) (kept-by f (counting (a + 1) n))) i d ≡ a + k) × (f (a + k) ≡ true) × (count f (counting a k) ≡ i)
+      go ih true e zero l = (0, omega arith, sym (add-zero a), ap f (add-zero a) ∙ e, refl)
+      go ih true e (suc i) l =
+          let r = ih i d (omega arith) in
+          let b : bit (f a) ≡ 1 = ap bit e in
+          (suc (r .0), omega arith, r .2 ∙ omega arith, next f a (r .0) ∙ r .3, omega arith)
+      go ih false e i l =
+          let r = ih i d l in
+          let b : bit (f a) ≡ 0 = ap bit e in
+          (suc (r .0), omega arith, r .2 ∙ omega arith, next f a (r .0) ∙ r .3, omega arith)
+
 module _ {X : Type 0} (d : X) where
   -- xs are the values of p at the numbers from u on
   abbrev pub Numbered : {Y : Type 0} → (X → Y) → (ℕ → Y) → ℕ → List X → Type 0

@@ -25,7 +25,7 @@ module _ {X : Type 0} (p : X → Bool) where
       go ih true e = let q : bit (p x) ≡ 1 = ap bit e in let i = ih (omega arith) in rw e (omega arith)
       go ih false e = rw (e, h .0 e)
 
-  steps-most : (n : ℕ) (xs : List X) → steps p n xs .1 ≤ n
+  pub steps-most : (n : ℕ) (xs : List X) → steps p n xs .1 ≤ n
   steps-most zero xs = omega arith
   steps-most (suc n) [] = omega arith
   steps-most (suc n) (x ∷ xs) =

@@ -1,8 +1,65 @@
 // The mathematics of cascaded lists: trees of key lists with their augmented lists, searches in them, and the sieve's tree.
 // Each theorem is the contract of a function.
+ghost use Rattle.cascade.specs.Theorems.{Lengths, Space, Ordered, Defined, RootSearch, EdgeWithin, OwnPlace, LookupWithin};
+ghost use Rattle.cascade.specs.Cases.{CasesHold};
+
 pub mod row;
 
-ghost use Rattle.cascade.specs.Cases.{CasesHold};
+// How long each augmented list is.
+pub fn lengths<K>() -> u8
+    ensures { λ _. ⌜ Lengths K ⌝ }
+{
+    0
+}
+
+// All augmented lists take at most four elements for three keys.
+pub fn space<K>() -> u8
+    ensures { λ _. ⌜ Space K ⌝ }
+{
+    0
+}
+
+// Every augmented list is in order.
+pub fn ordered<K>() -> u8
+    ensures { λ _. ⌜ Ordered K ⌝ }
+{
+    0
+}
+
+// An augmented list is the one list that its definition in words describes.
+pub fn defined<K>() -> u8
+    ensures { λ _. ⌜ Defined K ⌝ }
+{
+    0
+}
+
+// The root search.
+pub fn root_search<K>() -> u8
+    ensures { λ _. ⌜ RootSearch K ⌝ }
+{
+    0
+}
+
+// The step along an edge.
+pub fn edge_within<K>() -> u8
+    ensures { λ _. ⌜ EdgeWithin K 3 ⌝ }
+{
+    0
+}
+
+// From an augmented place to the place in the list.
+pub fn own_place<K>() -> u8
+    ensures { λ _. ⌜ OwnPlace K ⌝ }
+{
+    0
+}
+
+// A whole lookup.
+pub fn lookup_within<K>() -> u8
+    ensures { λ _. ⌜ LookupWithin K 3 ⌝ }
+{
+    0
+}
 
 // The worked cases of the definitions.
 pub fn cases_hold() -> u8
