@@ -10,3 +10,4 @@ pub mod Parts
 pub mod Bridges
 pub mod Words
 pub mod Walking
+pub mod Nodes

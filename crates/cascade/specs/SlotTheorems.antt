@@ -34,7 +34,7 @@ SlotsOnce = (a b : ℕ) → a ≤ b → b < slotCount → (s : ℕ) → count (�
 -- a visited list is chosen where it is inside
 abbrev pub FromParent : Type 0
 FromParent =
-    (a b : ℕ) → a ≤ b → b < slotCount → (v : ℕ) → v < sieveLists
+    (a b v : ℕ) → v < sieveLists
     → (0 < v → visited a b v ≡ (visited a b (sieveParent v) && (not (inside a b (sieveParent v)) && meets a b v)))
     × (chosen a b v ≡ (visited a b v && inside a b v))
 
