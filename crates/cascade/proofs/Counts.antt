@@ -7,6 +7,7 @@ use native.Mathlib.Numerals.{one-add}
 use native.Mathlib.Nat.{zero-add}
 use native.Mathlib.Omega.{arith}
 use lib.ListN.{length, take, drop}
+use Rattle.std.specs.shelf.Lists.{kept-by}
 use mathlib.Core.Logic.{_⊎_, inl, inr}
 use Rattle.orders.specs.Places.{bit, count}
 use Rattle.cascade.specs.Lists.{samples, insert, sort, testAt}
@@ -132,6 +133,19 @@ module _ {X : Type 0} where
   pub count-le-length : (p : X → Bool) (xs : List X) → count p xs ≤ length xs
   count-le-length p [] = omega arith
   count-le-length p (x ∷ xs) = let b = bit-le (p x) in let ih = count-le-length p xs in omega arith
+
+module _ {X : Type 0} where
+  pub length-kept : (f : X → Bool) (xs : List X) → length (kept-by f xs) ≡ count f xs
+  length-kept f [] = refl
+  length-kept f (x ∷ xs) =
+      let ih = length-kept f xs in
+      elim (f x) as (λ b. length (cond b (x ∷ kept-by f xs) (kept-by f xs)) ≡ bit b + count f xs) [ true ↦ omega arith | false ↦ omega arith ]
+
+  pub count-kept : (f g : X → Bool) (xs : List X) → count g (kept-by f xs) ≡ count (λ x. f x && g x) xs
+  count-kept f g [] = refl
+  count-kept f g (x ∷ xs) =
+      let ih = count-kept f g xs in
+      elim (f x) as (λ b. count g (cond b (x ∷ kept-by f xs) (kept-by f xs)) ≡ bit (b && g x) + count (λ y. f y && g y) xs) [ true ↦ omega arith | false ↦ omega arith ]
 
 pub count-map : {X Y : Type 0} (f : Y → Bool) (g : X → Y) (xs : List X) → count f (map g xs) ≡ count (λ x. f (g x)) xs
 count-map f g [] = refl

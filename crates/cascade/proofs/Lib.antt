@@ -11,3 +11,6 @@ pub mod Bridges
 pub mod Words
 pub mod Walking
 pub mod Nodes
+pub mod Subtrees
+pub mod Computed
+pub mod Ranging

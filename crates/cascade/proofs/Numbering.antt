@@ -8,13 +8,41 @@ use native.Mathlib.Numerals.{one-add}
 use native.Mathlib.Omega.{arith}
 use lib.ListN.{length, take, getD}
 use Rattle.std.specs.Iters.{counting}
-use Rattle.std.specs.shelf.Lists.{kept-by}
-use Rattle.std.proofs.shelf.Tests.{both-ways}
+use Rattle.std.specs.shelf.Lists.{kept-by, All}
 use Rattle.orders.specs.Places.{bit, count}
 
 -- a step from the number u to the next
 pub next : {Y : Type 0} (f : ℕ → Y) (u k : ℕ) → f (u + suc k) ≡ f (u + 1 + k)
 next f u k = ap f (omega arith)
+
+-- tests, values and facts that are the same at each number from a on, n of them
+module _ (a n : ℕ) where
+  abbrev pub Among : (ℕ → Type 0) → Type 0
+  Among P = (v : ℕ) → a ≤ v → v < a + n → P v
+
+pub among-tail : (P : ℕ → Type 0) (a n : ℕ) → Among a (suc n) P → Among (a + 1) n P
+among-tail P a n h v l k = h v (omega arith) (omega arith)
+
+pub count-among : (f g : ℕ → Bool) (a n : ℕ) → Among a n (λ v. f v ≡ g v) → count f (counting a n) ≡ count g (counting a n)
+count-among f g a zero h = refl
+count-among f g a (suc n) h =
+    let ih = count-among f g (a + 1) n (among-tail (λ v. f v ≡ g v) a n h) in
+    let e : bit (f a) ≡ bit (g a) = ap bit (h a (omega arith) (omega arith)) in
+    omega arith
+
+pub map-among : {Y : Type 0} (p : ℕ → Bool) (f g : ℕ → Y) (a n : ℕ) → Among a n (λ v. f v ≡ g v) → map f (kept-by p (counting a n)) ≡ map g (kept-by p (counting a n))
+map-among p f g a zero h = refl
+map-among p f g a (suc n) h =
+    let rest = kept-by p (counting (a + 1) n) in
+    let ih : map f rest ≡ map g rest = map-among p f g (a + 1) n (among-tail (λ v. f v ≡ g v) a n h) in
+    elim (p a) as (λ c. map f (cond c (a ∷ rest) rest) ≡ map g (cond c (a ∷ rest) rest)) [
+      | true ↦ ap (λ y. y ∷ map f rest) (h a (omega arith) (omega arith)) ∙ ap (λ ys. g a ∷ ys) ih
+      | false ↦ ih
+    ]
+
+pub all-among : (P : ℕ → Type 0) (a n : ℕ) → Among a n P → All P (counting a n)
+all-among P a zero h = tt
+all-among P a (suc n) h = (h a (omega arith) (omega arith), all-among P (a + 1) n (among-tail P a n h))
 
 module _ (f : ℕ → Bool) where
   -- numbers that fail at the front
@@ -23,6 +51,13 @@ module _ (f : ℕ → Bool) where
   kept-skip a (suc m) n h =
       let ih = kept-skip (a + 1) m n (λ w l g. h w (omega arith) (omega arith)) in
       rw (suc-add, h a (omega arith) (omega arith)) (ih ∙ ap (λ u. kept-by f (counting u n)) (omega arith))
+
+  pub count-split : (a m n : ℕ) → count f (counting a (m + n)) ≡ count f (counting a m) + count f (counting (a + m) n)
+  count-split a zero n = rw (zero-add n, add-zero, zero-add)
+  count-split a (suc m) n =
+      let ih = count-split (a + 1) m n in
+      let e : count f (counting (a + 1 + m) n) ≡ count f (counting (a + suc m) n) = ap (λ u. count f (counting u n)) (omega arith) in
+      rw suc-add (omega arith)
 
   -- what passes is found at the number of those before it that pass
   pub kept-at : (a n k d : ℕ) → k < n → f (a + k) ≡ true
