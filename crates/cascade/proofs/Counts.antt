@@ -16,6 +16,14 @@ pub bit-le : (b : Bool) → bit b ≤ 1
 bit-le true = omega arith
 bit-le false = omega arith
 
+pub and-true : (b : Bool) → (b && true) ≡ b
+and-true true = refl
+and-true false = refl
+
+pub and-false : (b : Bool) → (b && false) ≡ false
+and-false true = refl
+and-false false = refl
+
 -- an element that fails, with what that says
 pub split : (b : Bool) (n : ℕ) → (b ≡ false → n ≡ 0) → ((b ≡ true) × (bit b ≡ 1)) ⊎ ((b ≡ false) × (bit b ≡ 0) × (n ≡ 0))
 split true n h = inl (refl, refl)
@@ -146,6 +154,11 @@ module _ {X : Type 0} where
   count-kept f g (x ∷ xs) =
       let ih = count-kept f g xs in
       elim (f x) as (λ b. count g (cond b (x ∷ kept-by f xs) (kept-by f xs)) ≡ bit (b && g x) + count (λ y. f y && g y) xs) [ true ↦ omega arith | false ↦ omega arith ]
+
+  -- a test that goes with a condition
+  pub count-and : (f : X → Bool) (c r : Bool) (xs : List X) → count f xs ≡ bit r → count (λ x. f x && c) xs ≡ bit (r && c)
+  count-and f true r xs e = count-same (λ x. f x && true) f (λ x. and-true (f x)) xs ∙ e ∙ sym (ap bit (and-true r))
+  count-and f false r xs e = count-never (λ x. f x && false) (λ x. and-false (f x)) xs ∙ sym (ap bit (and-false r))
 
 pub count-map : {X Y : Type 0} (f : Y → Bool) (g : X → Y) (xs : List X) → count f (map g xs) ≡ count (λ x. f (g x)) xs
 count-map f g [] = refl

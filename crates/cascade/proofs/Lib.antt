@@ -14,3 +14,4 @@ pub mod Nodes
 pub mod Subtrees
 pub mod Computed
 pub mod Ranging
+pub mod Pointing

@@ -13,6 +13,7 @@ use Rattle.orders.specs.Numbers.{bitLength}
 use Rattle.shelves.specs.Slots.{sieveLists, sieveParent, sieveDepth, widthOf, firstSlot, covers}
 use Rattle.cascade.specs.SlotTree.{meets, inside, noneAbove, noneAboveChosen, visited, chosen}
 use Rattle.cascade.specs.SlotTheorems.{FromParent}
+use Rattle.cascade.proofs.Counts.{and-false}
 use Rattle.cascade.proofs.Searching.{bitLength-enough, bitLength-least}
 
 abbrev pub numberOf : (d j : ℕ) → ℕ
@@ -89,10 +90,6 @@ meets-up a b h j e =
     let lo = span-low h (j / 2) j (omega arith) in
     let hi = span-high h (j / 2) j (omega arith) in
     grind (arith, tells)
-
-and-false : (b : Bool) → (b && false) ≡ false
-and-false true = refl
-and-false false = refl
 
 and-known : (m n : Bool) → (m ≡ true → n ≡ true) → m ≡ (n && m)
 and-known true n h = rw (h refl)

@@ -17,16 +17,9 @@ use Rattle.orders.specs.Places.{bit, count}
 use Rattle.cascade.specs.Lists.{sort, Sorted}
 use Rattle.cascade.specs.Trees.{Tagged, ownSource, childSource, keysOf, tag, tagAll, notAbove}
 use Rattle.cascade.specs.Theorems.{partOf}
+use Rattle.cascade.proofs.Counts.{and-true, and-false}
 use Rattle.cascade.proofs.Merging.{kept-sorted}
 use Rattle.cascade.proofs.Ordering.{keyLe, total, trans, sorted-from-keys}
-
-and-true : (b : Bool) → (b && true) ≡ b
-and-true true = refl
-and-true false = refl
-
-and-false : (b : Bool) → (b && false) ≡ false
-and-false true = refl
-and-false false = refl
 
 module _ {K : Type 0} where
   pub count-part : (p : K → Bool) (source : ℕ) (xs : List (Tagged K)) → count (λ x. p (x .1) && eqb (x .0) source) xs ≡ count p (partOf source xs)

@@ -21,17 +21,13 @@ use Rattle.cascade.specs.Trees.{KeyTree, ParentsSmaller, keysAt, augmented}
 use Rattle.cascade.specs.Walks.{arrival, walkedPlace}
 use Rattle.cascade.specs.SlotTree.{meets, inside, visited, chosen, visitedLists, chosenLists, SieveShaped, spans, countedSpans, rangeComparisons}
 use Rattle.cascade.specs.SlotTheorems.{FewChosen, FewVisited, SlotsOnce, RangeWithin, SpansCounted}
-use Rattle.cascade.proofs.Counts.{length-kept, count-kept, count-same}
+use Rattle.cascade.proofs.Counts.{and-true, length-kept, count-kept, count-same}
 use Rattle.cascade.proofs.Numbering.{all-among, map-among}
 use Rattle.cascade.proofs.Nodes.{numberOf, insideAt, coversAt, inside-is, covers-is, chosen-is}
 use Rattle.cascade.proofs.Subtrees.{walk, count-visited}
 use Rattle.cascade.proofs.Computed.{choice, choice-few, walk-few, choice-covers}
 use Rattle.cascade.proofs.Bridges.{root-search}
 use Rattle.cascade.proofs.Walking.{step-most, walks}
-
-and-true : (b : Bool) → b ≡ (b && true)
-and-true true = refl
-and-true false = refl
 
 and-assoc : (x y z : Bool) → ((x && y) && z) ≡ (x && (y && z))
 and-assoc true y z = refl
@@ -45,7 +41,7 @@ module _ (a b : ℕ) where
   visited-length : length (visitedLists a b) ≡ length (walk a b 6 0)
   visited-length =
       length-kept (visited a b) (counting 0 sieveLists)
-      ∙ count-same (visited a b) (λ v. visited a b v && true) (λ v. and-true (visited a b v)) (counting 0 sieveLists)
+      ∙ count-same (visited a b) (λ v. visited a b v && true) (λ v. sym (and-true (visited a b v))) (counting 0 sieveLists)
       ∙ count-visited a b (λ v. true) (λ h j. true) (λ d h j e l. refl)
       ∙ count-all (walk a b 6 0)
 

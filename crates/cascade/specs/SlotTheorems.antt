@@ -56,8 +56,11 @@ Point K = ℕ × K
 
 module _ {K : Type 0} where
   -- the keys sieved from a point table: list v has those of the points in its slots, in point order
+  abbrev pub sievedList : List (Point K) → ℕ → ℕ × List K
+  sievedList ps v = (sieveParent v, map (λ p. p .1) (kept-by (λ p. covers v (p .0)) ps))
+
   abbrev pub sievedKeys : List (Point K) → KeyTree K
-  sievedKeys ps = map (λ v. (sieveParent v, map (λ p. p .1) (kept-by (λ p. covers v (p .0)) ps))) (counting 0 sieveLists)
+  sievedKeys ps = map (sievedList ps) (counting 0 sieveLists)
 
   -- whether a point has a slot of a to b and a key neither below low nor above high
   abbrev pub inRectangle : (K → K → Ordering) → (a b : ℕ) (low high : K) → Point K → Bool
