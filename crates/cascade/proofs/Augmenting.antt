@@ -1,21 +1,21 @@
 -- Each augmented list by its children: what stands behind a list, and what comes of it.
-use mathlib.Core.Path.{_≡_, refl, sym, ap, subst, _∙_}
+use mathlib.Core.Path.{_≡_, refl, sym, ap, _∙_}
 use mathlib.Core.Bool.{Bool, true, false, cond}
 use mathlib.Core.List.{List, [], _∷_, _++_, map}
-use Prim.Native.Nat.{ℕ, zero, suc, _+_, _*_, _-_, _/_, _<_, _≤_}
+use Prim.Native.Nat.{ℕ, zero, suc, _+_, _-_, _/_, _<_}
 use native.Mathlib.Nat.{zero-add, add-zero, add-suc, suc-add}
 use native.Mathlib.Omega.{arith}
 use lib.Dec.{eqb}
-use lib.ListN.{length, take, drop, getD, length-append, length-map, length-drop}
+use lib.ListN.{length, drop, getD, length-append, length-map, length-drop}
 use Rattle.std.specs.Iters.{counting}
 use Rattle.std.specs.shelf.Lists.{kept-by, sumBy}
 use Rattle.std.specs.declared.cmp.Ordering.{Ordering}
-use Rattle.std.proofs.shelf.Lists.{getD-drop}
+use Rattle.std.proofs.shelf.Lists.{getD-drop, getD-map}
 use Rattle.std.proofs.shelf.Sums.{sumBy-cons}
 use Rattle.std.proofs.shelf.Tests.{eq-eqb, ne-eqb, eqb-true}
 use Rattle.orders.specs.Places.{count}
-use Rattle.cascade.specs.Lists.{samples, sort}
-use Rattle.cascade.specs.Trees.{KeyTree, Tagged, ownSource, childSource, parentOf, keysAt, ParentsSmaller, childrenOf, ordinal, keysOf, tag, tagAll, notAbove, augment, childSamples, augmentedFrom, augmentedLists, augmented}
+use Rattle.cascade.specs.Lists.{samples}
+use Rattle.cascade.specs.Trees.{KeyTree, Tagged, ownSource, parentOf, keysAt, ParentsSmaller, childrenOf, ordinal, keysOf, tag, tagAll, notAbove, augment, childSamples, augmentedFrom, augmentedLists, augmented}
 use Rattle.cascade.specs.Theorems.{Lengths}
 use Rattle.cascade.proofs.Counts.{length-sort, length-samples}
 use Rattle.cascade.proofs.Numbering.{kept-skip, kept-at, kept-back, Numbered, numbered-tail, numbered-head, count-numbered}
@@ -49,11 +49,11 @@ module _ {K : Type 0} (order : K → K → Ordering) where
         | false ↦ ih
       ])
 
-module _ {K : Type 0} (order : K → K → Ordering) (t : KeyTree K) (smaller : ParentsSmaller t) where
-  -- the samples of the children of list v
-  abbrev pub samplesUnder : ℕ → List (List K)
-  samplesUnder v = map (λ w. samples (keysOf (augmented order t w))) (childrenOf t v)
+-- the samples of the children of list v
+abbrev pub samplesUnder : {K : Type 0} → (K → K → Ordering) → KeyTree K → ℕ → List (List K)
+samplesUnder order t v = map (λ w. samples (keysOf (augmented order t w))) (childrenOf t v)
 
+module _ {K : Type 0} (order : K → K → Ordering) (t : KeyTree K) (smaller : ParentsSmaller t) where
   children-behind : (v : ℕ) → v < length t → childrenOf t v ≡ kept-by (λ w. eqb (parentOf t w) v) (counting (1 + v) (length t - suc v))
   children-behind v h =
       ap (λ n. kept-by (λ w. eqb (parentOf t w) v) (counting 1 n)) (omega arith)
@@ -61,7 +61,7 @@ module _ {K : Type 0} (order : K → K → Ordering) (t : KeyTree K) (smaller : 
       (λ w l m. let s = smaller w (omega arith) (omega arith) in ne-eqb (parentOf t w) v (omega arith))
 
   -- own keys, and the samples of the children, in order
-  pub by-children : (v : ℕ) → v < length t → augmented order t v ≡ augment order (keysAt t v) (samplesUnder v)
+  pub by-children : (v : ℕ) → v < length t → augmented order t v ≡ augment order (keysAt t v) (samplesUnder order t v)
   by-children v h =
       let gs = augmentedLists order t in
       let same : length (drop (suc v) t) ≡ length (drop (suc v) gs) = length-drop (suc v) t ∙ ap (λ n. n - suc v) (sym (length-augmentedFrom order 0 t)) ∙ sym (length-drop (suc v) gs) in
@@ -74,6 +74,7 @@ module _ {K : Type 0} (order : K → K → Ordering) (t : KeyTree K) (smaller : 
       ∙ ap (λ n. map (λ w. samples (keysOf (augmented order t w))) (kept-by (λ w. eqb (parentOf t w) v) (counting (suc v) n))) (length-drop (suc v) t)
       ∙ ap (map (λ w. samples (keysOf (augmented order t w)))) (sym (children-behind v h ∙ ap (λ n. kept-by (λ w. eqb (parentOf t w) v) (counting n (length t - suc v))) (omega arith))))
 
+module _ {K : Type 0} (t : KeyTree K) where
   ordinal-count : (w : ℕ) → 0 < w → w < length t → ordinal t w ≡ count (λ u. eqb (parentOf t u) (parentOf t w)) (counting 1 (w - 1))
   ordinal-count w z h =
       let l : length (drop 1 t) ≡ length t - 1 = length-drop 1 t in
@@ -108,6 +109,14 @@ module _ {K : Type 0} (order : K → K → Ordering) (t : KeyTree K) (smaller : 
             ∙ r .4,
       )
 
+-- so are its samples
+pub samples-at : {K : Type 0} (order : K → K → Ordering) (t : KeyTree K) (w : ℕ) → 0 < w → w < length t
+    → getD (samplesUnder order t (parentOf t w)) (ordinal t w) [] ≡ samples (keysOf (augmented order t w))
+samples-at order t w z h =
+    let c = child-at t w z h in
+    getD-map (λ u. samples (keysOf (augmented order t u))) (childrenOf t (parentOf t w)) (ordinal t w) 0 [] (c .1)
+    ∙ ap (λ u. samples (keysOf (augmented order t u))) (c .0)
+
 length-tagAll : {K : Type 0} {W : Type 0} (f : W → List K) (j : ℕ) (ws : List W) → length (tagAll j (map f ws)) ≡ sumBy (λ w. length (f w)) ws
 length-tagAll f j [] = refl
 length-tagAll f j (w ∷ ws) =
@@ -131,6 +140,6 @@ lengths K order t smaller v h =
     let q = sumBy-same (λ w. length (f w)) (λ w. length (augmented order t w) / 4)
     (λ w. length-samples (keysOf (augmented order t w)) ∙ ap (λ n. n / 4) (length-map (augmented order t w) (λ x. x .1))) (childrenOf t v) in
     ap length (by-children order t smaller v h)
-    ∙ length-sort (notAbove order) (tag ownSource (keysAt t v) ++ tagAll 0 (samplesUnder order t smaller v))
-    ∙ length-append (tag ownSource (keysAt t v)) (tagAll 0 (samplesUnder order t smaller v))
+    ∙ length-sort (notAbove order) (tag ownSource (keysAt t v) ++ tagAll 0 (samplesUnder order t v))
+    ∙ length-append (tag ownSource (keysAt t v)) (tagAll 0 (samplesUnder order t v))
     ∙ rw length-map (omega arith)

@@ -1,29 +1,26 @@
 -- Augmented lists are in order, and their tallies lead from the number of elements passed in one list to that in another.
-use mathlib.Core.Path.{_≡_, refl, sym, ap, subst, _∙_}
-use mathlib.Core.Bool.{Bool, true, false, cond, _&&_}
+use mathlib.Core.Path.{_≡_, sym, ap, _∙_}
+use mathlib.Core.Bool.{Bool, _&&_}
 use mathlib.Core.List.{List, [], _∷_, _++_, map}
-use Prim.Native.Nat.{ℕ, zero, suc, _+_, _*_, _/_, _<_, _≤_}
-use native.Mathlib.Nat.{zero-add}
+use Prim.Native.Nat.{ℕ, zero, suc, _+_, _/_, _<_, _≤_}
+use native.Mathlib.Nat.{le-trans}
 use native.Mathlib.Omega.{arith}
 use lib.Dec.{eqb}
-use lib.ListN.{length, take, drop, getD}
+use lib.ListN.{length, drop, getD}
 use Rattle.std.specs.declared.cmp.Ordering.{Ordering}
-use Rattle.std.proofs.shelf.Lists.{getD-map}
 use Rattle.orders.specs.declared.side.Side.{Side}
 use Rattle.orders.specs.Laws.{LawfulOrder}
-use Rattle.orders.specs.Numbers.{bitLength}
-use Rattle.orders.specs.Places.{count, passed, place}
-use Rattle.cascade.specs.Lists.{samples, sort, Sorted}
-use Rattle.cascade.specs.Trees.{KeyTree, Tagged, ownSource, childSource, parentOf, keysAt, ParentsSmaller, childrenOf, ordinal, keysOf, tag, tagAll, notAbove, augment, childSamples, augmentedFrom, augmented}
+use Rattle.orders.specs.Places.{count, passed}
+use Rattle.cascade.specs.Lists.{Sorted}
+use Rattle.cascade.specs.Trees.{KeyTree, ownSource, childSource, parentOf, keysAt, ParentsSmaller, ordinal, keysOf, tag, tagAll, notAbove, augment, childSamples, augmentedFrom, augmented}
 use Rattle.cascade.specs.Rows.{tally}
-use Rattle.cascade.specs.Searches.{rootSearch, edgeStep}
 use Rattle.cascade.specs.Walks.{passes}
 use Rattle.cascade.specs.Theorems.{Ordered, RootSearch, EdgeWithin, OwnPlace, partOf}
 use Rattle.cascade.proofs.Counts.{Falls, count-front, count-sort, count-samples, count-map}
 use Rattle.cascade.proofs.Order.{sort-sorted}
 use Rattle.cascade.proofs.Ordering.{keyLe, total, trans, sorted-keys, in-order-from-sorted, falls-keys}
 use Rattle.cascade.proofs.Parts.{count-part, part-own, part-child}
-use Rattle.cascade.proofs.Augmenting.{from-at, by-children, samplesUnder, child-at}
+use Rattle.cascade.proofs.Augmenting.{from-at, by-children, samplesUnder, samples-at}
 use Rattle.cascade.proofs.Searching.{root-is, edge-is}
 
 -- a test of what the elements are mapped to
@@ -70,13 +67,6 @@ own-place K order laws t v h side q =
     ∙ ap (count (passed order side q)) (part-own (keysAt t v) ss)
 
 module _ {K : Type 0} (order : K → K → Ordering) (laws : LawfulOrder order) (t : KeyTree K) (smaller : ParentsSmaller t) where
-  -- the samples of a child are found under its ordinal
-  pub samples-at : (w : ℕ) → 0 < w → w < length t → getD (samplesUnder order t smaller (parentOf t w)) (ordinal t w) [] ≡ samples (keysOf (augmented order t w))
-  samples-at w z h =
-      let c = child-at order t smaller w z h in
-      getD-map (λ u. samples (keysOf (augmented order t u))) (childrenOf t (parentOf t w)) (ordinal t w) 0 [] (c .1)
-      ∙ ap (λ u. samples (keysOf (augmented order t u))) (c .0)
-
   -- the tally of a child's samples is a fourth of the elements passed in the child's list
   pub child-tally : (side : Side) (q : K) (w : ℕ) → 0 < w → w < length t
       → tally (childSource (ordinal t w)) (count (passes order side q) (augmented order t (parentOf t w))) (augmented order t (parentOf t w))
@@ -84,12 +74,14 @@ module _ {K : Type 0} (order : K → K → Ordering) (laws : LawfulOrder order) 
   child-tally side q w z h =
       let v = parentOf t w in
       let s = smaller w z h in
-      tally-passed order laws t v side q (childSource (ordinal t w)) (keysAt t v) (samplesUnder order t smaller v) (by-children order t smaller v (omega arith))
-      ∙ ap (count (passed order side q)) (part-child (ordinal t w) (keysAt t v) (samplesUnder order t smaller v) ∙ samples-at w z h)
+      tally-passed order laws t v side q (childSource (ordinal t w)) (keysAt t v) (samplesUnder order t v) (by-children order t smaller v (omega arith))
+      ∙ ap (count (passed order side q)) (part-child (ordinal t w) (keysAt t v) (samplesUnder order t v) ∙ samples-at order t w z h)
       ∙ count-samples (passed order side q) (keysOf (augmented order t w)) (falls-keys order laws side q (keysOf (augmented order t w)) (keys-sorted order laws t w))
       ∙ ap (λ n. n / 4) (count-map (passed order side q) (λ x. x .1) (augmented order t w))
 
-pub edge-within : (K : Type 0) → EdgeWithin K 3
-edge-within K order laws t smaller w z h side q p e g f =
+pub edge-within : (K : Type 0) (most : ℕ) → 3 ≤ most → EdgeWithin K most
+edge-within K most enough order laws t smaller w z h side q p e g f =
+    let r =
     edge-is (passes order side q) (augmented order t w) (falls-at order laws t w side q) g
-    (f ∙ ap (λ n. tally (childSource (ordinal t w)) n (augmented order t (parentOf t w))) e ∙ child-tally order laws t smaller side q w z h)
+    (f ∙ ap (λ n. tally (childSource (ordinal t w)) n (augmented order t (parentOf t w))) e ∙ child-tally order laws t smaller side q w z h) in
+    (r .0, le-trans (r .1) enough)

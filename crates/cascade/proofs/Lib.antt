@@ -15,3 +15,4 @@ pub mod Subtrees
 pub mod Computed
 pub mod Ranging
 pub mod Pointing
+pub mod Links

@@ -1,5 +1,5 @@
 -- The stable sort: the least element first, a merge, and what a filter leaves of a list put in order.
-use mathlib.Core.Path.{_≡_, refl, sym, ap, subst, _∙_}
+use mathlib.Core.Path.{_≡_, refl, sym, ap, _∙_}
 use mathlib.Core.Bool.{Bool, true, false, cond}
 use mathlib.Core.List.{List, [], _∷_, _++_}
 use Rattle.std.specs.shelf.Lists.{kept-by}
@@ -34,7 +34,7 @@ module _ {X : Type 0} (le : X → X → Bool)
   sort-fixed [] s = refl
   sort-fixed (x ∷ xs) s = ap (insert le x) (sort-fixed xs (s .1)) ∙ insert-low x xs (s .0)
 
-  low-append : (z : X) (xs ys : List X) → Low le z xs → Low le z ys → Low le z (xs ++ ys)
+  pub low-append : (z : X) (xs ys : List X) → Low le z xs → Low le z ys → Low le z (xs ++ ys)
   low-append z [] ys l m = m
   low-append z (x ∷ xs) ys l m = (l .0, low-append z xs ys (l .1) m)
 
@@ -47,6 +47,17 @@ module _ {X : Type 0} (le : X → X → Bool)
   above-low : (x y : X) (xs : List X) → Low le x xs → le x y ≡ false → Above le y xs
   above-low x y [] l e = tt
   above-low x y (z ∷ zs) l e = (false-by (le z y) (λ g. both-ways (le x y) e (trans x z y (l .0) g)), above-low x y zs (l .1) e)
+
+  -- by the heads of lists that are in order
+  pub above-head : (y x : X) (xs : List X) → Sorted le (x ∷ xs) → le x y ≡ false → Above le y (x ∷ xs)
+  above-head y x xs s e = (e, above-low x y xs (s .0) e)
+
+  pub low-head : (y x : X) (xs : List X) → Sorted le (x ∷ xs) → le y x ≡ true → Low le y (x ∷ xs)
+  low-head y x xs s e = (e, low-down le total trans y x xs e (s .0))
+
+  pub above-append : (y : X) (xs zs : List X) → Above le y xs → Above le y zs → Above le y (xs ++ zs)
+  above-append y [] zs a c = c
+  above-append y (x ∷ xs) zs a c = (a .0, above-append y xs zs (a .1) c)
 
   into-is : (x : X) (xs : List X) → Low le x xs → (f : List X → List X) → ((ys : List X) → Sorted le ys → f ys ≡ sort le (xs ++ ys))
       → (ys : List X) → Sorted le ys → into le x f ys ≡ insert le x (sort le (xs ++ ys))

@@ -1,10 +1,8 @@
 -- A list that is put in order is in order, and a test that holds downwards falls along it.
-use mathlib.Core.Path.{_≡_, refl, sym, ap, subst, _∙_}
+use mathlib.Core.Path.{_≡_, refl}
 use mathlib.Core.Bool.{Bool, true, false, cond}
 use mathlib.Core.List.{List, [], _∷_}
-use Prim.Native.Nat.{ℕ, zero, suc, _+_}
-use native.Mathlib.Omega.{arith}
-use Rattle.orders.specs.Places.{bit, count}
+use Rattle.orders.specs.Places.{count}
 use Rattle.cascade.specs.Lists.{insert, sort, Low, Sorted}
 use Rattle.cascade.proofs.Counts.{Falls}
 

@@ -1,19 +1,18 @@
 -- The points of a rectangle lie in the spans of a range, each in one.
 use mathlib.Core.Path.{_≡_, refl, sym, ap, subst, _∙_}
 use mathlib.Core.Bool.{Bool, true, false, not, cond, _&&_}
-use mathlib.Core.List.{List, [], _∷_, map}
+use mathlib.Core.List.{List, [], _∷_}
 use mathlib.Core.Logic.{inl, inr}
-use Prim.Native.Nat.{ℕ, zero, suc, _+_, _-_, _/_, _<_, _≤_}
+use Prim.Native.Nat.{ℕ, zero, suc, _+_, _<_, _≤_}
 use native.Mathlib.Nat.{zero-add}
 use native.Mathlib.Numerals.{one-add}
 use native.Mathlib.Omega.{arith}
 use lib.Dec.{leb, ltb}
-use lib.ListN.{length, take, getD}
+use lib.ListN.{take}
 use Rattle.std.specs.Finite.{nth}
 use Rattle.std.specs.Iters.{counting}
 use Rattle.std.specs.shelf.Lists.{kept-by}
-use Rattle.std.specs.declared.option.Option.{Option}
-use Rattle.std.specs.declared.option.Option.the-variants.{Some, None}
+use Rattle.std.specs.declared.option.Option.the-variants.{Some}
 use Rattle.std.specs.declared.cmp.Ordering.{Ordering}
 use Rattle.std.specs.Orderings.{isLe, isLt}
 use Rattle.std.proofs.shelf.Counted.{length-map-counting, getD-map-counting}
@@ -22,11 +21,12 @@ use Rattle.orders.specs.declared.side.Side.{Side}
 use Rattle.orders.specs.declared.side.Side.the-variants.{Low, High}
 use Rattle.orders.specs.Laws.{LawfulOrder}
 use Rattle.orders.specs.Places.{bit, count, passed, place, inOrder}
-use Rattle.shelves.specs.Slots.{sieveLists, slotCount, sieveParent, covers}
+use Rattle.shelves.specs.Slots.{sieveLists, slotCount, covers}
 use Rattle.cascade.specs.Lists.{testAt, Sorted}
-use Rattle.cascade.specs.Trees.{KeyTree, keysAt, keysOf, notAbove}
-use Rattle.cascade.specs.SlotTree.{chosen, chosenLists, SieveShaped, Span, spans, countedSpans}
-use Rattle.cascade.specs.SlotTheorems.{Point, sievedList, sievedKeys, inRectangle, holds, Rectangle}
+use Rattle.cascade.specs.Trees.{keysAt, keysOf, notAbove}
+use Rattle.cascade.specs.SlotTree.{chosen, chosenLists, SieveShaped, Span, spans}
+use Rattle.cascade.specs.Points.{BarePoint, sievedList, sievedKeys, inRectangle, holds}
+use Rattle.cascade.specs.SlotTheorems.{Rectangle}
 use Rattle.cascade.proofs.Counts.{Falls, count-map, count-kept, count-and, test-before, test-after}
 use Rattle.cascade.proofs.Merging.{sort-fixed, kept-sort}
 use Rattle.cascade.proofs.Numbering.{count-among}
@@ -52,7 +52,7 @@ module _ {X : Type 0} (f : X → Bool) (xs : List X) (falls : Falls f xs) (i : �
 
 module _ {K : Type 0} where
   -- the place of a point among those that are kept
-  test-kept : (c : Point K → Bool) (f : K → Bool) (ps : List (Point K)) (i : ℕ) (p : Point K) → nth ps i ≡ Some p → c p ≡ true
+  test-kept : (c : BarePoint K → Bool) (f : K → Bool) (ps : List (BarePoint K)) (i : ℕ) (p : BarePoint K) → nth ps i ≡ Some p → c p ≡ true
       → testAt f (keysOf (kept-by c ps)) (count c (take i ps)) ≡ f (p .1)
   test-kept c f [] i p e k = let z : _≡_ {A = ℕ} 0 1 = cc in absurd (omega arith)
   test-kept c f (x ∷ xs) zero p e k =
@@ -65,24 +65,24 @@ module _ {K : Type 0} where
         | false ↦ rw zero-add ih
       ]
 
-  sieve-keys : (ps : List (Point K)) (v : ℕ) → v < sieveLists → keysAt (sievedKeys ps) v ≡ keysOf (kept-by (λ p. covers v (p .0)) ps)
+  sieve-keys : (ps : List (BarePoint K)) (v : ℕ) → v < sieveLists → keysAt (sievedKeys ps) v ≡ keysOf (kept-by (λ p. covers v (p .0)) ps)
   sieve-keys ps v l = ap (λ (b : ℕ × List K). b .1) (getD-map-counting (sievedList ps) 0 sieveLists v v (0, []) l (zero-add v))
 
-  pub sieve-shaped : (ps : List (Point K)) → SieveShaped (sievedKeys ps)
+  pub sieve-shaped : (ps : List (BarePoint K)) → SieveShaped (sievedKeys ps)
   sieve-shaped ps = record {
     lists = length-map-counting (sievedList ps) 0 sieveLists;
     parents = λ v z l. ap (λ (b : ℕ × List K). b .0) (getD-map-counting (sievedList ps) 0 sieveLists v v (0, []) l (zero-add v));
   }
 
-module _ {K : Type 0} (order : K → K → Ordering) (laws : LawfulOrder order) (ps : List (Point K)) (rising : inOrder order (keysOf ps) ≡ true) where
+module _ {K : Type 0} (order : K → K → Ordering) (laws : LawfulOrder order) (ps : List (BarePoint K)) (rising : inOrder order (keysOf ps) ≡ true) where
   -- the points of some slots are in order too
-  kept-rising : (c : Point K → Bool) → Sorted (keyLe order) (keysOf (kept-by c ps))
+  kept-rising : (c : BarePoint K → Bool) → Sorted (keyLe order) (keysOf (kept-by c ps))
   kept-rising c =
       let s = sorted-from-keys order ps (sorted-from-in-order order laws (keysOf ps) rising) in
       let e = sym (kept-sort (notAbove order) (total order laws) (trans order laws) c ps) ∙ ap (kept-by c) (sort-fixed (notAbove order) (total order laws) (trans order laws) ps s) in
       sorted-keys order (kept-by c ps) (subst (Sorted (notAbove order)) e (sort-sorted (notAbove order) (total order laws) (trans order laws) (kept-by c ps)))
 
-  module _ (low high : K) (i : ℕ) (p : Point K) (at : nth ps i ≡ Some p) where
+  module _ (low high : K) (i : ℕ) (p : BarePoint K) (at : nth ps i ≡ Some p) where
     -- whether the point's key is neither below low nor above high
     abbrev between : Bool
     between = not (isLt (order (p .1) low)) && isLe (order (p .1) high)

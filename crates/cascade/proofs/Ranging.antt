@@ -1,8 +1,9 @@
 -- How many lists a range visits and chooses, which slots they cover, and how many comparisons it takes.
 use mathlib.Core.Path.{_≡_, refl, sym, ap, subst, _∙_}
-use mathlib.Core.Bool.{Bool, true, false, not, cond, _&&_}
-use mathlib.Core.List.{List, [], _∷_, map}
-use Prim.Native.Nat.{ℕ, zero, suc, _+_, _-_, _*_, _/_, _^_, _<_, _≤_}
+use mathlib.Core.Bool.{Bool, true, false, _&&_}
+use mathlib.Core.List.{List, [], _∷_}
+use Prim.Native.Nat.{ℕ, suc, _+_, _*_, _<_, _≤_}
+use native.Mathlib.Nat.{le-trans}
 use native.Mathlib.Omega.{arith}
 use lib.Dec.{leb, ltb}
 use lib.ListN.{length}
@@ -16,10 +17,10 @@ use Rattle.orders.specs.declared.side.Side.the-variants.{Low, High}
 use Rattle.orders.specs.Laws.{LawfulOrder}
 use Rattle.orders.specs.Numbers.{bitLength}
 use Rattle.orders.specs.Places.{bit, count, place}
-use Rattle.shelves.specs.Slots.{sieveLists, slotCount, sieveParent, covers}
+use Rattle.shelves.specs.Slots.{sieveLists, slotCount, covers}
 use Rattle.cascade.specs.Trees.{KeyTree, ParentsSmaller, keysAt, augmented}
 use Rattle.cascade.specs.Walks.{arrival, walkedPlace}
-use Rattle.cascade.specs.SlotTree.{meets, inside, visited, chosen, visitedLists, chosenLists, SieveShaped, spans, countedSpans, rangeComparisons}
+use Rattle.cascade.specs.SlotTree.{inside, visited, chosen, visitedLists, chosenLists, SieveShaped}
 use Rattle.cascade.specs.SlotTheorems.{FewChosen, FewVisited, SlotsOnce, RangeWithin, SpansCounted}
 use Rattle.cascade.proofs.Counts.{and-true, length-kept, count-kept, count-same}
 use Rattle.cascade.proofs.Numbering.{all-among, map-among}
@@ -61,8 +62,8 @@ module _ (a b : ℕ) where
       (λ d h j e l. ap (λ c. c && covers (numberOf d j) s) (inside-is d j l h e a b) ∙ ap (λ c. insideAt a b h j && c) (covers-is d j l h e s))
       ∙ sym (count-kept (λ x. insideAt a b (x .0) (x .1)) (λ x. coversAt s (x .0) (x .1)) (walk a b 6 0))
 
-pub few-chosen : FewChosen 10
-few-chosen a b up top = subst (λ n. n ≤ 10) (sym (chosen-length a b)) (choice-few a b up top)
+pub few-chosen : (most : ℕ) → 10 ≤ most → FewChosen most
+few-chosen most enough a b up top = le-trans (subst (λ n. n ≤ 10) (sym (chosen-length a b)) (choice-few a b up top)) enough
 
 -- the root covers all slots
 root-visited : (a b : ℕ) → a ≤ b → b < slotCount → visited a b 0 ≡ true
@@ -81,8 +82,8 @@ kept-first : (f : ℕ → Bool) (n : ℕ) → f 0 ≡ true → kept-by f (counti
 kept-first f n e = rw e
 
 -- one for the first, and at most six for each of twenty more
-sum-most : (c : ℕ → ℕ) (most : ℕ) (xs rest : List ℕ) → xs ≡ 0 ∷ rest → length xs ≤ 21 → c 0 ≤ most → All (λ v. c v ≤ 6) rest → sumBy c xs ≤ most + 120
-sum-most c most xs rest e l k h =
+sum-most : (c : ℕ → ℕ) (most more : ℕ) (xs rest : List ℕ) → xs ≡ 0 ∷ rest → length xs ≤ 21 → c 0 ≤ most → All (λ v. c v ≤ 6) rest → 120 ≤ more → sumBy c xs ≤ most + more
+sum-most c most more xs rest e l k h enough =
     let n : length xs ≡ suc (length rest) = ap length e in
     let s : sumBy c xs ≡ c 0 + sumBy c rest = ap (sumBy c) e ∙ sumBy-cons c 0 rest in
     let m = sumBy-le c 6 rest h in
@@ -105,13 +106,14 @@ module _ {K : Type 0} (order : K → K → Ordering) (t : KeyTree K) (low high :
       let y = root-search K order laws t 0 High high .1 in
       omega arith
 
-pub range-within : (K : Type 0) → RangeWithin K 120
-range-within K order laws t a b up top low high =
-    sum-most (sides order t low high) (2 * bitLength (length (augmented order t 0))) (visitedLists a b) (kept-by (visited a b) (counting 1 126))
+pub range-within : (K : Type 0) (more : ℕ) → 120 ≤ more → RangeWithin K more
+range-within K more enough order laws t a b up top low high =
+    sum-most (sides order t low high) (2 * bitLength (length (augmented order t 0))) more (visitedLists a b) (kept-by (visited a b) (counting 1 126))
     (kept-first (visited a b) 126 (root-visited a b up top))
     (few-visited a b up top .1)
     (sides-root order t low high laws)
     (all-kept-by (visited a b) (λ v. sides order t low high v ≤ 6) (counting 1 126) (all-among (λ v. sides order t low high v ≤ 6) 1 126 (sides-most order t low high)))
+    enough
 
 pub sieve-smaller : {K : Type 0} (t : KeyTree K) → SieveShaped t → ParentsSmaller t
 sieve-smaller t shape v z l =

@@ -1,19 +1,18 @@
 -- The two searches of a list along which a test falls.
-use mathlib.Core.Path.{_≡_, refl, sym, ap, subst, _∙_}
+use mathlib.Core.Path.{_≡_, refl, ap}
 use mathlib.Core.Bool.{Bool, true, false, cond}
 use mathlib.Core.List.{List, [], _∷_}
-use mathlib.Core.Logic.{_⊎_, inl, inr}
-use Prim.Native.Nat.{ℕ, zero, suc, _+_, _*_, _-_, _/_, _^_, _<_, _≤_}
+use mathlib.Core.Logic.{inl, inr}
+use Prim.Native.Nat.{ℕ, zero, suc, _+_, _*_, _/_, _^_, _<_, _≤_}
 use native.Mathlib.Nat.{two-pow-succ}
 use native.Mathlib.Omega.{arith}
-use lib.Dec.{ltb, eqb}
 use lib.ListN.{length, drop}
 use Rattle.std.proofs.shelf.Tests.{cases-lt, cases-eq, lt-ltb, le-ltb, eq-eqb, ne-eqb}
 use Rattle.orders.specs.Numbers.{halvings, bitLength}
 use Rattle.orders.specs.Places.{bit, count}
 use Rattle.cascade.specs.Lists.{testAt}
 use Rattle.cascade.specs.Searches.{steps, edgeStep, bisect, rootSearch}
-use Rattle.cascade.proofs.Counts.{Falls, split, bit-le, count-drop, falls-drop, test-before, test-after, count-le-length}
+use Rattle.cascade.proofs.Counts.{Falls, count-drop, falls-drop, test-before, test-after, count-le-length}
 
 module _ {X : Type 0} (p : X → Bool) where
   steps-place : (n : ℕ) (xs : List X) → Falls p xs → count p xs ≤ n → steps p n xs .0 ≡ count p xs

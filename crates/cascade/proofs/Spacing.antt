@@ -1,8 +1,8 @@
 -- All augmented lists together: three of their elements for four keys.
-use mathlib.Core.Path.{_≡_, refl, sym, ap, _∙_}
-use mathlib.Core.Bool.{Bool, true, false, cond}
-use mathlib.Core.List.{List, [], _∷_, _++_, map}
-use Prim.Native.Nat.{ℕ, zero, suc, _+_, _*_, _/_, _<_, _≤_}
+use mathlib.Core.Path.{_≡_, refl, _∙_}
+use mathlib.Core.Bool.{true, false, cond}
+use mathlib.Core.List.{List, [], _∷_, _++_}
+use Prim.Native.Nat.{ℕ, suc, _+_, _*_, _/_, _≤_}
 use native.Mathlib.Omega.{arith}
 use lib.Dec.{eqb, ltb}
 use lib.ListN.{length, length-append, length-map}
@@ -14,7 +14,6 @@ use Rattle.cascade.specs.Lists.{samples}
 use Rattle.cascade.specs.Trees.{KeyTree, Tagged, ownSource, keysOf, tag, tagAll, notAbove, augment, childSamples, augmentedFrom, allKeys}
 use Rattle.cascade.specs.Theorems.{Space}
 use Rattle.cascade.proofs.Counts.{length-sort, length-samples}
-use Rattle.cascade.proofs.Augmenting.{length-augmentedFrom}
 
 module _ {K : Type 0} where
   -- how many samples the lists have of which v is the parent

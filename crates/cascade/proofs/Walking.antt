@@ -1,11 +1,9 @@
 -- A lookup arrives at each list of its path after as many elements as are passed there.
-use mathlib.Core.Path.{_≡_, refl, sym, ap, subst, _∙_}
-use mathlib.Core.Bool.{Bool, true, false, cond}
-use mathlib.Core.List.{List, [], _∷_, _++_, map}
+use mathlib.Core.Path.{_≡_, refl, sym, ap, _∙_}
+use mathlib.Core.List.{[], _∷_, _++_, map}
 use mathlib.Core.Logic.{inl, inr}
-use Prim.Native.Nat.{ℕ, zero, suc, _+_, _*_, _-_, _<_, _≤_}
+use Prim.Native.Nat.{ℕ, zero, suc, _+_, _*_, _<_, _≤_}
 use native.Mathlib.Omega.{arith}
-use lib.Dec.{eqb}
 use lib.ListN.{length, length-append}
 use Rattle.std.specs.shelf.Lists.{sumBy}
 use Rattle.std.specs.declared.cmp.Ordering.{Ordering}
@@ -16,9 +14,9 @@ use Rattle.orders.specs.declared.side.Side.{Side}
 use Rattle.orders.specs.Laws.{LawfulOrder}
 use Rattle.orders.specs.Numbers.{bitLength}
 use Rattle.orders.specs.Places.{count, place}
-use Rattle.cascade.specs.Trees.{KeyTree, ownSource, childSource, parentOf, keysAt, ParentsSmaller, ordinal, path, pathWithin, depthOf, augmented}
+use Rattle.cascade.specs.Trees.{KeyTree, ownSource, parentOf, keysAt, ParentsSmaller, path, pathWithin, depthOf, augmented}
 use Rattle.cascade.specs.Rows.{tally}
-use Rattle.cascade.specs.Walks.{passes, rootArrival, edgeArrival, arrivalWithin, arrival, walkedPlace, stops, comparisons}
+use Rattle.cascade.specs.Walks.{passes, edgeArrival, arrivalWithin, arrival, walkedPlace, stops, comparisons}
 use Rattle.cascade.specs.Theorems.{LookupWithin}
 use Rattle.cascade.proofs.Searching.{steps-most}
 use Rattle.cascade.proofs.Bridges.{root-search, edge-within, own-place}
@@ -56,7 +54,7 @@ module _ {K : Type 0} (order : K → K → Ordering) (laws : LawfulOrder order) 
   arrives-within (suc n) (suc v) h l =
       let s = smaller (suc v) (omega arith) l in
       ap (λ r. r .0) (arrival-step order t side q smaller (suc v) (omega arith) l)
-      ∙ edge-within K order laws t smaller (suc v) (omega arith) l side q (arrival order t side q (parentOf t (suc v)) .0) (arrives-within n (parentOf t (suc v)) (omega arith) (omega arith)) _ refl .0
+      ∙ edge-within K 3 (omega arith) order laws t smaller (suc v) (omega arith) l side q (arrival order t side q (parentOf t (suc v)) .0) (arrives-within n (parentOf t (suc v)) (omega arith) (omega arith)) _ refl .0
 
   -- the augmented place at each list is the number of elements passed
   pub arrives : (v : ℕ) → v < length t → arrival order t side q v .0 ≡ count (passes order side q) (augmented order t v)

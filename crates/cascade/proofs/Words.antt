@@ -1,13 +1,12 @@
 -- An augmented list is the one list that its definition in words describes.
 use mathlib.Core.Path.{_≡_, refl, sym, ap, subst, _∙_}
 use mathlib.Core.Bool.{Bool, true, false, cond}
-use mathlib.Core.List.{List, [], _∷_, _++_, map}
+use mathlib.Core.List.{List, [], _∷_, _++_}
 use mathlib.Core.Logic.{inl, inr}
-use Prim.Native.Nat.{ℕ, zero, suc, _+_, _-_, _<_, _≤_}
+use Prim.Native.Nat.{ℕ, zero, suc, _<_, _≤_}
 use native.Mathlib.Omega.{arith}
 use lib.Dec.{leb, eqb}
 use lib.ListN.{length, getD, length-map}
-use Rattle.std.specs.Iters.{counting}
 use Rattle.std.specs.shelf.Lists.{kept-by}
 use Rattle.std.specs.declared.cmp.Ordering.{Ordering}
 use Rattle.std.specs.declared.cmp.Ordering.the-variants.{Less, Equal, Greater}
@@ -15,16 +14,15 @@ use Rattle.std.specs.Orderings.{isLe, isLt, reversed}
 use Rattle.std.proofs.shelf.Lists.{getD-past}
 use Rattle.std.proofs.shelf.Tests.{both-ways, cases-eq, cases-lt, eq-eqb, ne-eqb, eqb-true, leb-true, leb-false, le-leb}
 use Rattle.orders.specs.Laws.{LawfulOrder}
-use Rattle.orders.specs.Places.{count}
 use Rattle.cascade.specs.Lists.{samples, insert, sort, Low, Sorted}
-use Rattle.cascade.specs.Trees.{KeyTree, Tagged, ownSource, childSource, parentOf, keysAt, ParentsSmaller, childrenOf, ordinal, keysOf, tag, tagAll, notAbove, augmented}
+use Rattle.cascade.specs.Trees.{KeyTree, Tagged, ownSource, childSource, keysAt, ParentsSmaller, childrenOf, ordinal, keysOf, tag, tagAll, notAbove, augmented}
 use Rattle.cascade.specs.Theorems.{before, partOf, IsAugmented, Defined}
 use Rattle.cascade.proofs.Order.{sort-sorted, low-sort}
 use Rattle.cascade.proofs.Merging.{samples-sorted}
 use Rattle.cascade.proofs.Ordering.{keyLe, key-total, key-trans, sorted-from-in-order}
 use Rattle.cascade.proofs.Parts.{part-own, part-child, part-sort}
-use Rattle.cascade.proofs.Augmenting.{by-children, samplesUnder, child-at, child-back}
-use Rattle.cascade.proofs.Bridges.{keys-sorted, samples-at}
+use Rattle.cascade.proofs.Augmenting.{by-children, samplesUnder, samples-at, child-back}
+use Rattle.cascade.proofs.Bridges.{keys-sorted}
 
 -- which of two elements stands before the other, by how their keys compare and by their sources
 abbrev rank : Ordering → ℕ → ℕ → Bool
@@ -176,7 +174,7 @@ module _ {K : Type 0} (order : K → K → Ordering) (laws : LawfulOrder order) 
 
 module _ {K : Type 0} (order : K → K → Ordering) (laws : LawfulOrder order) (t : KeyTree K) (smaller : ParentsSmaller t) (v : ℕ) (there : v < length t) where
   abbrev sources : List (Tagged K)
-  sources = tag ownSource (keysAt t v) ++ tagAll 0 (samplesUnder order t smaller v)
+  sources = tag ownSource (keysAt t v) ++ tagAll 0 (samplesUnder order t v)
 
   is : augmented order t v ≡ sort (notAbove order) sources
   is = by-children order t smaller v there
@@ -186,22 +184,22 @@ module _ {K : Type 0} (order : K → K → Ordering) (laws : LawfulOrder order) 
 
   described : Sorted (keyLe order) (keysAt t v) → IsAugmented order t v (augmented order t v)
   described s =
-      let own = part-own (keysAt t v) (samplesUnder order t smaller v) in
+      let own = part-own (keysAt t v) (samplesUnder order t v) in
       record {
-        ordered = subst (Sorted (before order)) (sym (is ∙ sort-before order sources (rise (keysAt t v) (samplesUnder order t smaller v))))
+        ordered = subst (Sorted (before order)) (sym (is ∙ sort-before order sources (rise (keysAt t v) (samplesUnder order t v))))
             (sort-sorted (before order) (before-total order laws) (before-trans order laws) sources);
         own = part-is ownSource (subst (Sorted (keyLe order)) (sym own) s) ∙ own;
         children = λ w z h e.
             let p : partOf (childSource (ordinal t w)) sources ≡ samples (keysOf (augmented order t w)) =
-            part-child (ordinal t w) (keysAt t v) (samplesUnder order t smaller v)
-            ∙ subst (λ u. getD (samplesUnder order t smaller u) (ordinal t w) [] ≡ samples (keysOf (augmented order t w))) e (samples-at order laws t smaller w z h) in
+            part-child (ordinal t w) (keysAt t v) (samplesUnder order t v)
+            ∙ subst (λ u. getD (samplesUnder order t u) (ordinal t w) [] ≡ samples (keysOf (augmented order t w))) e (samples-at order t w z h) in
             part-is (childSource (ordinal t w))
             (subst (Sorted (keyLe order)) (sym p) (samples-sorted (keyLe order) (key-total order laws) (key-trans order laws) (keysOf (augmented order t w)) (keys-sorted order laws t w)))
             ∙ p;
         others = λ j h.
             let p : partOf (childSource j) sources ≡ [] =
-            part-child j (keysAt t v) (samplesUnder order t smaller v)
-            ∙ getD-past (samplesUnder order t smaller v) j [] (rw length-map h) in
+            part-child j (keysAt t v) (samplesUnder order t v)
+            ∙ getD-past (samplesUnder order t v) j [] (rw length-map h) in
             part-is (childSource j) (subst (Sorted (keyLe order)) (sym p) tt) ∙ p;
       }
 
@@ -210,7 +208,7 @@ module _ {K : Type 0} (order : K → K → Ordering) (laws : LawfulOrder order) 
   same xs ys h k (suc j) =
       elim (cases-lt j (length (childrenOf t v))) [
         | inl l ↦
-            let r = child-back order t smaller v j l in
+            let r = child-back t v j l in
             subst (λ i. partOf (childSource i) xs ≡ partOf (childSource i) ys) (r .4)
             (h .children (r .0) (r .1) (r .2) (r .3) ∙ sym (k .children (r .0) (r .1) (r .2) (r .3)))
         | inr l ↦ h .others j l ∙ sym (k .others j l)

@@ -4,6 +4,7 @@ pub mod Rows
 pub mod Searches
 pub mod Walks
 pub mod SlotTree
+pub mod Points
 pub mod Theorems
 pub mod SlotTheorems
 pub mod Cases

@@ -1,5 +1,5 @@
 -- Rows of an augmented list: tallies by source of the elements in front of a place.
-use mathlib.Core.List.{List, [], _∷_, map}
+use mathlib.Core.List.{List, map}
 use Prim.Native.Nat.{ℕ, suc}
 use lib.Dec.{eqb}
 use lib.ListN.{length, take}

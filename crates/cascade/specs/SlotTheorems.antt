@@ -1,22 +1,20 @@
 -- What holds of the sieve's tree and of ranges over it.
 use mathlib.Core.Path.{_≡_}
-use mathlib.Core.Bool.{Bool, true, false, not, _&&_}
+use mathlib.Core.Bool.{true, not, _&&_}
 use mathlib.Core.List.{List, map}
 use Prim.Native.Nat.{ℕ, suc, _+_, _*_, _<_, _≤_}
-use lib.Dec.{leb, ltb}
-use lib.ListN.{length, take}
+use lib.Dec.{leb}
+use lib.ListN.{length}
 use Rattle.std.specs.Finite.{nth}
-use Rattle.std.specs.Iters.{counting}
-use Rattle.std.specs.shelf.Lists.{kept-by}
 use Rattle.std.specs.declared.option.Option.the-variants.{Some}
 use Rattle.std.specs.declared.cmp.Ordering.{Ordering}
-use Rattle.std.specs.Orderings.{isLe, isLt}
 use Rattle.orders.specs.Laws.{LawfulOrder}
 use Rattle.orders.specs.Numbers.{bitLength}
 use Rattle.orders.specs.Places.{bit, count, inOrder}
 use Rattle.shelves.specs.Slots.{sieveLists, slotCount, sieveParent, covers}
 use Rattle.cascade.specs.Trees.{KeyTree, augmented}
-use Rattle.cascade.specs.SlotTree.{meets, inside, visited, chosen, visitedLists, chosenLists, SieveShaped, Span, spans, countedSpans, rangeComparisons}
+use Rattle.cascade.specs.Points.{BarePoint, sievedKeys, inRectangle, holds}
+use Rattle.cascade.specs.SlotTree.{meets, inside, visited, chosen, visitedLists, chosenLists, SieveShaped, spans, countedSpans, rangeComparisons}
 
 -- at most `most` lists are chosen
 abbrev pub FewChosen : (most : ℕ) → Type 0
@@ -50,32 +48,9 @@ SpansCounted K =
     (order : K → K → Ordering) → LawfulOrder order → (t : KeyTree K) → SieveShaped t → (a b : ℕ) (low high : K)
     → spans order t a b low high ≡ countedSpans order t a b low high
 
--- a point without its payload: its slot and its key
-abbrev pub Point : Type 0 → Type 0
-Point K = ℕ × K
-
-module _ {K : Type 0} where
-  -- the keys sieved from a point table: list v has those of the points in its slots, in point order
-  abbrev pub sievedList : List (Point K) → ℕ → ℕ × List K
-  sievedList ps v = (sieveParent v, map (λ p. p .1) (kept-by (λ p. covers v (p .0)) ps))
-
-  abbrev pub sievedKeys : List (Point K) → KeyTree K
-  sievedKeys ps = map (sievedList ps) (counting 0 sieveLists)
-
-  -- whether a point has a slot of a to b and a key neither below low nor above high
-  abbrev pub inRectangle : (K → K → Ordering) → (a b : ℕ) (low high : K) → Point K → Bool
-  inRectangle order a b low high p = (leb a (p .0) && leb (p .0) b) && (not (isLt (order (p .1) low)) && isLe (order (p .1) high))
-
-  -- whether a span holds the point with number i, whose slot is s: its list covers the slot, and the point's place in it,
-  -- the number of points before it in the list's slots, lies in the span
-  abbrev pub holds : List (Point K) → (i s : ℕ) → Span → Bool
-  holds ps i s span =
-      let at = count (λ p. covers (span .0) (p .0)) (take i ps) in
-      covers (span .0) s && (leb (span .1) at && ltb at (span .2))
-
 -- of points in order of their keys, each that lies in the rectangle is in exactly one span, and no other point in any
 abbrev pub Rectangle : Type 0 → Type 0
 Rectangle K =
-    (order : K → K → Ordering) → LawfulOrder order → (ps : List (Point K)) → inOrder order (map (λ p. p .1) ps) ≡ true
-    → (a b : ℕ) → a ≤ b → b < slotCount → (low high : K) (i : ℕ) (p : Point K) → nth ps i ≡ Some p
+    (order : K → K → Ordering) → LawfulOrder order → (ps : List (BarePoint K)) → inOrder order (map (λ p. p .1) ps) ≡ true
+    → (a b : ℕ) → a ≤ b → b < slotCount → (low high : K) (i : ℕ) (p : BarePoint K) → nth ps i ≡ Some p
     → count (holds ps i (p .0)) (spans order (sievedKeys ps) a b low high) ≡ bit (inRectangle order a b low high p)

@@ -10,7 +10,7 @@ use Rattle.std.specs.shelf.Lists.{kept-by, sumBy}
 use Rattle.std.specs.declared.cmp.Ordering.{Ordering}
 use Rattle.orders.specs.declared.side.Side.the-variants.{Low, High}
 use Rattle.orders.specs.Places.{place}
-use Rattle.shelves.specs.Slots.{sieveLists, sieveParent, sieveDepth, widthOf, firstSlot, covers}
+use Rattle.shelves.specs.Slots.{sieveLists, sieveParent, sieveDepth, widthOf, firstSlot}
 use Rattle.cascade.specs.Trees.{KeyTree, parentOf, keysAt}
 use Rattle.cascade.specs.Walks.{arrival, walkedPlace}
 

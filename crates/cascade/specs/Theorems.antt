@@ -2,9 +2,9 @@
 use mathlib.Core.Path.{_≡_}
 use mathlib.Core.Bool.{Bool, true, false, cond}
 use mathlib.Core.List.{List, [], map}
-use Prim.Native.Nat.{ℕ, zero, suc, _+_, _*_, _/_, _<_, _≤_}
+use Prim.Native.Nat.{ℕ, _+_, _*_, _/_, _<_, _≤_}
 use lib.Dec.{leb, eqb}
-use lib.ListN.{length, getD}
+use lib.ListN.{length}
 use Rattle.std.specs.shelf.Lists.{kept-by, sumBy}
 use Rattle.std.specs.declared.cmp.Ordering.{Ordering}
 use Rattle.std.specs.Orderings.{isLe, isLt}
@@ -13,10 +13,10 @@ use Rattle.orders.specs.Laws.{LawfulOrder}
 use Rattle.orders.specs.Numbers.{bitLength}
 use Rattle.orders.specs.Places.{count, place, inOrder}
 use Rattle.cascade.specs.Lists.{samples, Sorted}
-use Rattle.cascade.specs.Trees.{KeyTree, Tagged, ownSource, childSource, parentOf, keysAt, ParentsSmaller, childrenOf, ordinal, path, depthOf, allKeys, keysOf, notAbove, augmented, allAugmented}
+use Rattle.cascade.specs.Trees.{KeyTree, Tagged, ownSource, childSource, parentOf, keysAt, ParentsSmaller, childrenOf, ordinal, path, depthOf, allKeys, keysOf, augmented, allAugmented}
 use Rattle.cascade.specs.Rows.{tally}
 use Rattle.cascade.specs.Searches.{rootSearch, edgeStep}
-use Rattle.cascade.specs.Walks.{passes, arrival, stops, comparisons}
+use Rattle.cascade.specs.Walks.{passes, stops, comparisons}
 
 -- |A(v)| = |C(v)| + the sum of |A(w)| / 4 over the children w
 abbrev pub Lengths : Type 0 → Type 0
