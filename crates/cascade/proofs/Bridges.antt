@@ -17,8 +17,8 @@ use Rattle.cascade.specs.Rows.{tally}
 use Rattle.cascade.specs.Walks.{passes}
 use Rattle.cascade.specs.Theorems.{Ordered, RootSearch, EdgeWithin, OwnPlace, partOf}
 use Rattle.cascade.proofs.Counts.{Falls, count-front, count-sort, count-samples, count-map}
-use Rattle.cascade.proofs.Order.{sort-sorted}
-use Rattle.cascade.proofs.Ordering.{keyLe, total, trans, sorted-keys, in-order-from-sorted, falls-keys}
+use Rattle.cascade.proofs.Sorting.{sort-sorted}
+use Rattle.cascade.proofs.KeyOrders.{keyLe, total, trans, sorted-keys, in-order-from-sorted, falls-keys}
 use Rattle.cascade.proofs.Parts.{count-part, part-own, part-child}
 use Rattle.cascade.proofs.Augmenting.{from-at, by-children, samplesUnder, samples-at}
 use Rattle.cascade.proofs.Searching.{root-is, edge-is}

@@ -1,11 +1,11 @@
 pub mod Counts
-pub mod Order
+pub mod Sorting
 pub mod Searching
 pub mod Numbering
 pub mod Augmenting
 pub mod Spacing
 pub mod Merging
-pub mod Ordering
+pub mod KeyOrders
 pub mod Parts
 pub mod Bridges
 pub mod Words

@@ -5,7 +5,7 @@ use mathlib.Core.List.{List, [], _∷_, _++_}
 use Rattle.std.specs.shelf.Lists.{kept-by}
 use Rattle.std.proofs.shelf.Tests.{both-ways}
 use Rattle.cascade.specs.Lists.{samples, insert, sort, Low, Sorted}
-use Rattle.cascade.proofs.Order.{sort-sorted, low-down, low-sort, false-by}
+use Rattle.cascade.proofs.Sorting.{sort-sorted, low-down, low-sort, false-by}
 
 module _ {X : Type 0} where
   -- x goes in front of what f makes of the rest, behind the elements of the list that it is above

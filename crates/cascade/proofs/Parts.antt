@@ -19,7 +19,7 @@ use Rattle.cascade.specs.Trees.{Tagged, ownSource, childSource, keysOf, tag, t
 use Rattle.cascade.specs.Theorems.{partOf}
 use Rattle.cascade.proofs.Counts.{and-true, and-false}
 use Rattle.cascade.proofs.Merging.{kept-sorted}
-use Rattle.cascade.proofs.Ordering.{keyLe, total, trans, sorted-from-keys}
+use Rattle.cascade.proofs.KeyOrders.{keyLe, total, trans, sorted-from-keys}
 
 module _ {K : Type 0} where
   pub count-part : (p : K → Bool) (source : ℕ) (xs : List (Tagged K)) → count (λ x. p (x .1) && eqb (x .0) source) xs ≡ count p (partOf source xs)

@@ -30,8 +30,8 @@ use Rattle.cascade.specs.SlotTheorems.{Rectangle}
 use Rattle.cascade.proofs.Counts.{Falls, count-map, count-kept, count-and, test-before, test-after}
 use Rattle.cascade.proofs.Merging.{sort-fixed, kept-sort}
 use Rattle.cascade.proofs.Numbering.{count-among}
-use Rattle.cascade.proofs.Order.{sort-sorted}
-use Rattle.cascade.proofs.Ordering.{keyLe, total, trans, sorted-keys, sorted-from-keys, sorted-from-in-order, falls-keys}
+use Rattle.cascade.proofs.Sorting.{sort-sorted}
+use Rattle.cascade.proofs.KeyOrders.{keyLe, total, trans, sorted-keys, sorted-from-keys, sorted-from-in-order, falls-keys}
 use Rattle.cascade.proofs.Ranging.{slots-once, spans-counted}
 
 -- a test that falls passes at the places before the number of those that pass

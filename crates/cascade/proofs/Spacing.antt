@@ -1,4 +1,4 @@
--- All augmented lists together: three of their elements for four keys.
+-- All augmented lists together: at most four elements for three keys.
 use mathlib.Core.Path.{_≡_, refl, _∙_}
 use mathlib.Core.Bool.{true, false, cond}
 use mathlib.Core.List.{List, [], _∷_, _++_}

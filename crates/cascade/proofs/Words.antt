@@ -17,9 +17,9 @@ use Rattle.orders.specs.Laws.{LawfulOrder}
 use Rattle.cascade.specs.Lists.{samples, insert, sort, Low, Sorted}
 use Rattle.cascade.specs.Trees.{KeyTree, Tagged, ownSource, childSource, keysAt, ParentsSmaller, childrenOf, ordinal, keysOf, tag, tagAll, notAbove, augmented}
 use Rattle.cascade.specs.Theorems.{before, partOf, IsAugmented, Defined}
-use Rattle.cascade.proofs.Order.{sort-sorted, low-sort}
+use Rattle.cascade.proofs.Sorting.{sort-sorted, low-sort}
 use Rattle.cascade.proofs.Merging.{samples-sorted}
-use Rattle.cascade.proofs.Ordering.{keyLe, key-total, key-trans, sorted-from-in-order}
+use Rattle.cascade.proofs.KeyOrders.{keyLe, key-total, key-trans, sorted-from-in-order}
 use Rattle.cascade.proofs.Parts.{part-own, part-child, part-sort}
 use Rattle.cascade.proofs.Augmenting.{by-children, samplesUnder, samples-at, child-back}
 use Rattle.cascade.proofs.Bridges.{keys-sorted}

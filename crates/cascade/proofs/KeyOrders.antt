@@ -14,7 +14,7 @@ use Rattle.cascade.specs.Lists.{Sorted}
 use Rattle.cascade.specs.Lists as lists
 use Rattle.cascade.specs.Trees.{Tagged, keysOf, notAbove}
 use Rattle.cascade.proofs.Counts.{Falls}
-use Rattle.cascade.proofs.Order.{falls, false-by, low-down}
+use Rattle.cascade.proofs.Sorting.{falls, false-by, low-down}
 
 above-back : (o : Ordering) → isLe o ≡ false → isLe (reversed o) ≡ true
 above-back Less e = sym e
