@@ -1,0 +1,10 @@
+pub mod Lists
+pub mod Trees
+pub mod Rows
+pub mod Searches
+pub mod Walks
+pub mod SlotTree
+pub mod Points
+pub mod Theorems
+pub mod SlotTheorems
+pub mod Cases
