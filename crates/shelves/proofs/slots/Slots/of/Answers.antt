@@ -1,0 +1,17 @@
+use mathlib.Core.Path.{ap₂}
+use Prim.Native.Nat.{ℕ, _+_}
+use native.Mathlib.Omega.{arith}
+use Rattle.shelves.proofs.Depths.{fits, width-at, first-at}
+use Rattle.shelves.proofs.slots.Slots.of.Needs as need
+
+pub shr-width : need.shr-width
+shr-width c = let d = c .in-Continue-depth .ensures tt in omega (arith, fits (c .args .list) (d .0) .shallow)
+
+pub shl-first : need.shl-first
+shl-first c = let d = c .in-Continue-depth .ensures tt in omega (arith, fits (c .args .list) (d .0) .shallow)
+
+pub returns : need.returns
+returns c =
+    let d = c .in-Continue-depth .ensures tt in
+    let first = first-at (c .args .list) (c .in-Continue-depth .depth) (d .0) (d .1) in
+    (d .0, first, ap₂ (λ (x y : ℕ). x + y) first (width-at (c .args .list) (c .in-Continue-depth .depth) (d .0) (d .1)))
