@@ -12,13 +12,12 @@ use Rattle.std.proofs.shelf.Lists.{at-drop-more, at-drop-all}
 use Rattle.std.proofs.shelf.Maps.{nth-past, nth-getD}
 use Rattle.std.proofs.shelf.Tests.{lt-ltb, le-ltb, cond-true, cond-false}
 use Rattle.std.specs.Finite.{nth}
-use Rattle.std.specs.declared.option.Option.{Option}
 use Rattle.std.specs.declared.option.Option.the-variants.{Some, None}
 use Rattle.std.specs.shelf.Lists.{kept-by}
 use Rattle.shelves.specs.Meaning.{Branch, entriesOf}
-use Rattle.shelves.specs.Sieving.{siftedIn, firstAbove}
+use Rattle.shelves.specs.Sieving.{inSlots, siftedIn, firstAbove}
 use Rattle.shelves.specs.Slots.{sieveLists, slotCount, sieveParent, firstSlot, widthOf}
-use Rattle.shelves.specs.Tables.{sieved, sifted}
+use Rattle.shelves.specs.Tables.{sieved, sifted, entryOf}
 use Rattle.shelves.specs.declared.rows.Point.{Point}
 use Rattle.shelves.specs.declared.slots.Slots.{Slots}
 
@@ -56,29 +55,26 @@ module _ {K P : Type 0} (ps : List (Point K P)) where
   pub above-none : (i : ℕ) → length ps ≤ i → firstAbove i (drop i ps) ≡ None
   above-none i h = at-drop-all (firstAbove i) ps i h
 
--- the n-th of those that pass the test f, each as g shows it
-module _ {X Y : Type 0} (f : X → Bool) (g : X → Y) where
-  abbrev pub nthKept : List X → ℕ → Option Y
-  nthKept xs n = nth (map g (kept-by f xs)) n
+-- the entry at place n among the points from number i on that lie in the slots, one step of the loop on
+module _ {K P : Type 0} (slots : Slots) (ps : List (Point K P)) (i : ℕ) where
+  module _ (p : Point K P) (h : i < length ps) (is : p ≡ getD ps i p) (n : ℕ) where
+    abbrev rest : List (Point K P)
+    rest = kept-by (λ q. inSlots slots (q .slot)) (drop (i + 1) ps)
 
-  module _ (xs : List X) (i : ℕ) (x : X) (h : i < length xs) (is : x ≡ getD xs i x) (n : ℕ) where
-    abbrev rest : List X
-    rest = kept-by f (drop (i + 1) xs)
+    sift-step : (b : Bool) → inSlots slots (p .slot) ≡ b → nth (siftedIn slots (drop i ps)) n ≡ nth (map entryOf (cond b (p ∷ rest) rest)) n
+    sift-step b e =
+        at-drop-more (λ qs. nth (siftedIn slots qs) n) ps i p h
+        ∙ ap (λ (q : Point K P). nth (siftedIn slots (q ∷ drop (i + 1) ps)) n) (sym is)
+        ∙ ap (λ (t : Bool). nth (map entryOf (cond t (p ∷ rest) rest)) n) e
 
-    kept-step : (b : Bool) → f x ≡ b → nthKept (drop i xs) n ≡ nth (map g (cond b (x ∷ rest) rest)) n
-    kept-step b e =
-        at-drop-more (λ ys. nthKept ys n) xs i x h
-        ∙ ap (λ (y : X). nthKept (y ∷ drop (i + 1) xs) n) (sym is)
-        ∙ ap (λ (t : Bool). nth (map g (cond t (x ∷ rest) rest)) n) e
+    pub sift-here : inSlots slots (p .slot) ≡ true → n ≡ 0 → nth (siftedIn slots (drop i ps)) n ≡ Some (entryOf p)
+    sift-here e z = sift-step true e ∙ ap (nth (entryOf p ∷ map entryOf rest)) z
 
-    pub kept-here : f x ≡ true → n ≡ 0 → nthKept (drop i xs) n ≡ Some (g x)
-    kept-here e z = kept-step true e ∙ ap (nth (g x ∷ map g rest)) z
+    pub sift-yes : inSlots slots (p .slot) ≡ true → 0 < n → nth (siftedIn slots (drop i ps)) n ≡ nth (siftedIn slots (drop (i + 1) ps)) (n - 1)
+    sift-yes e l = let m : n ≡ suc (n - 1) = omega arith in sift-step true e ∙ ap (nth (entryOf p ∷ map entryOf rest)) m
 
-    pub kept-yes : f x ≡ true → 0 < n → nthKept (drop i xs) n ≡ nthKept (drop (i + 1) xs) (n - 1)
-    kept-yes e p = let m : n ≡ suc (n - 1) = omega arith in kept-step true e ∙ ap (nth (g x ∷ map g rest)) m
+    pub sift-no : inSlots slots (p .slot) ≡ false → nth (siftedIn slots (drop i ps)) n ≡ nth (siftedIn slots (drop (i + 1) ps)) n
+    sift-no e = sift-step false e
 
-    pub kept-no : f x ≡ false → nthKept (drop i xs) n ≡ nthKept (drop (i + 1) xs) n
-    kept-no e = kept-step false e
-
-  pub kept-none : (xs : List X) (i n : ℕ) → length xs ≤ i → nthKept (drop i xs) n ≡ None
-  kept-none xs i n h = at-drop-all (λ ys. nthKept ys n) xs i h
+  pub sift-none : (n : ℕ) → length ps ≤ i → nth (siftedIn slots (drop i ps)) n ≡ None
+  sift-none n h = at-drop-all (λ qs. nth (siftedIn slots qs) n) ps i h

@@ -58,7 +58,7 @@ fn count_in<K, P>(points: &[Point<K, P>], slots: Slots) -> usize
     ensures { λ r. ⌜ r ≡ length (siftedIn slots (now (points .entry))) ⌝ }
 {
     let mut n = 0;
-    for (i, p) in points.iter().enumerate() {
+    for (_, p) in points.iter().enumerate() {
         if slots.hold(p.slot) {
             n += 1;
         }
@@ -67,11 +67,15 @@ fn count_in<K, P>(points: &[Point<K, P>], slots: Slots) -> usize
 }
 
 // The entry at a place among the points that lie in the slots.
-fn entry_in<K: Copy, P: Copy>(points: &[Point<K, P>], slots: Slots, place: usize) -> Option<Entry<K, P>>
+fn entry_in<K: Copy, P: Copy>(
+    points: &[Point<K, P>],
+    slots: Slots,
+    place: usize,
+) -> Option<Entry<K, P>>
     ensures { λ r. ⌜ r ≡ nth (siftedIn slots (now (points .entry))) place ⌝ }
 {
     let mut before = place;
-    for (i, p) in points.iter().enumerate() {
+    for (_, p) in points.iter().enumerate() {
         if slots.hold(p.slot) {
             if before == 0 {
                 return Some(Entry {

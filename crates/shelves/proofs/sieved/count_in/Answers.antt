@@ -8,13 +8,13 @@ use Rattle.shelves.specs.Sieving.{inSlots}
 use Rattle.shelves.specs.Tables.{entryOf}
 use Rattle.shelves.proofs.sieved.count_in.Needs as need
 
-pub loop-i-again : need.loop-i-again
-loop-i-again g c = search (needs, sumBy-more)
+pub loop-p-again : need.loop-p-again
+loop-p-again g c = search (needs, sumBy-more)
 
 pub returns : need.returns
 returns g c =
     let ps = c .args .points .now in
     let slots = c .args .slots in
-    c .loop-i .inv .1
-    ∙ ap (countBy (λ p. inSlots slots (p .slot))) (take-all (c .loop-i .i) ps (omega arith))
+    c .loop-p .inv .1
+    ∙ ap (countBy (λ p. inSlots slots (p .slot))) (take-all (c .loop-p .p-index) ps (omega arith))
     ∙ sym (length-map (kept-by (λ p. inSlots slots (p .slot)) ps) entryOf ∙ length-kept-by (λ p. inSlots slots (p .slot)) ps)
