@@ -1,0 +1,4 @@
+mod Reading
+mod Closing
+mod Gathering
+mod Runs

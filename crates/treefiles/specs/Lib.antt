@@ -1,0 +1,4 @@
+pub mod Format
+pub mod Reader
+pub mod Loading
+pub mod Steps

@@ -1,0 +1,8 @@
+// Tree files: a tree of term lists as bytes, and loading it into memory.
+mod field;
+mod fields;
+mod item;
+pub mod load;
+pub mod loaded;
+mod loader;
+mod stage;
