@@ -1,5 +1,3 @@
-use mathlib.Core.Path.{ap₂}
-use Prim.Native.Nat.{ℕ, _+_}
 use native.Mathlib.Omega.{arith}
 use Rattle.shelves.proofs.Depths.{fits, width-at, first-at}
 use Rattle.shelves.proofs.slots.Slots.of.Needs as need
@@ -14,4 +12,5 @@ pub returns : need.returns
 returns c =
     let d = c .in-Continue-depth .ensures tt in
     let first = first-at (c .args .list) (c .in-Continue-depth .depth) (d .0) (d .1) in
-    (d .0, first, ap₂ (λ (x y : ℕ). x + y) first (width-at (c .args .list) (c .in-Continue-depth .depth) (d .0) (d .1)))
+    let width = width-at (c .args .list) (c .in-Continue-depth .depth) (d .0) (d .1) in
+    (d .0, omega arith, omega arith)
