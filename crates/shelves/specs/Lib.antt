@@ -1,3 +1,5 @@
+pub mod Kinds
 pub mod Meaning
+pub mod Sieving
 pub mod Slots
 pub mod Tables

@@ -25,5 +25,5 @@ module _ {K P : Type 0} where
   sifted ps v = map entryOf (kept-by (λ p. covers v (p .slot)) ps)
 
   -- a point table: the 127 lists of the sieve
-  abbrev pub sieved : List (Point K P) → List (Branch K P)
+  unfoldable pub sieved : List (Point K P) → List (Branch K P)
   sieved ps = map (λ v. record { parent = sieveParent v; entries = sifted ps v }) (counting 0 sieveLists)

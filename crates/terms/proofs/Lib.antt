@@ -1,1 +1,3 @@
+mod Lexes
+mod Ors
 mod Texts

@@ -4,6 +4,7 @@ ghost use Prim.Native.Nat.{ℕ, _<_, _≤_};
 ghost use lib.ListN.{length, getD};
 
 pub mod making;
+pub mod order;
 
 // How many bytes a term key has at the most.
 pub const LONGEST: usize = 32;

@@ -1,4 +1,8 @@
-// Marks of an entry: a set of 32 bits.
+// Marks of an entry.
+ghost use Rattle.terms.specs.Unions.{noMarks, unionOfMarks};
+use orders::Payload;
+
+// A set of 32 bits.
 #[derive(Clone, Copy, PartialEq, Eq, Debug)]
 pub struct Marks {
     pub bits: u32,
@@ -13,4 +17,21 @@ impl Marks {
 
     // The term is preferred to others of its meaning.
     pub const PREFERRED: u32 = 4;
+}
+
+// Union, with the empty set neutral.
+pub impl Payload for Marks as MarksPayload {
+    ghost neutral = { noMarks };
+
+    ghost joined = { unionOfMarks };
+
+    fn neutral_payload() -> Marks {
+        Marks { bits: 0 }
+    }
+
+    fn join(self, other: Marks) -> Marks {
+        Marks {
+            bits: self.bits | other.bits,
+        }
+    }
 }

@@ -1,0 +1,3 @@
+mod Branches
+mod Depths
+mod Points
