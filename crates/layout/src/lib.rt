@@ -1,0 +1,47 @@
+// A layout: a value of no bytes whose type says that some lists are the augmented lists of a key tree.
+// A struct that holds one has this fact of its own ghost lists, under the order of its keys.
+ghost use mathlib.Core.Path.{_≡_};
+ghost use mathlib.Core.List.{List, []};
+ghost use Prim.Native.Nat.{ℕ};
+ghost use base.Fml.{feq};
+ghost use denote.Ref.{now};
+ghost use denote.Sharing.{said};
+ghost use Rattle.cascade.specs.Trees.{augmentedLists};
+ghost use Rattle.layout.specs.KeyTrees.{keyTree};
+use orders::KeyOrder;
+use shelves::Shelf;
+use std::marker::PhantomData;
+
+// That `augmented` are the augmented lists of `tree`. No code outside this crate can make one but by `empty` and `of_shelf`.
+pub struct Layout<K: KeyOrder> {
+    of: PhantomData<K>,
+    ghost tree: { List (ℕ × List K) },
+    ghost augmented: { List (List (ℕ × K)) },
+    ghost tied: owns { feq _ augmented (augmentedLists (K·KeyOrder .order) tree) },
+    ghost shown: lends { said (feq _ augmented (augmentedLists (K·KeyOrder .order) tree)) tt },
+}
+
+impl<K: KeyOrder> Drop for Layout<K> {
+    fn drop(self) {
+        let Self { of: _ } = self;
+    }
+}
+
+// The layout of no lists.
+pub fn empty<K: KeyOrder>() -> Layout<K>
+    ensures { λ r. ⌜ (r .tree ≡ []) × (r .augmented ≡ []) ⌝ }
+{
+    Layout { of: PhantomData }
+}
+
+// The layout of the lists of a shelf.
+pub fn of_shelf<S: Shelf>(shelf: &S) -> Layout<S::Key>
+    ensures { λ r. ⌜ (r .tree ≡ keyTree (meaning (now (shelf .entry)))) × (r .augmented ≡ augmentedLists (Key·KeyOrder .order) (keyTree (meaning (now (shelf .entry))))) ⌝ }
+{
+    Layout { of: PhantomData }
+}
+
+// What a layout says of its lists.
+pub fn known<K: KeyOrder>(layout: &Layout<K>)
+    ensures { λ _. ⌜ now (layout .entry) .augmented ≡ augmentedLists order (now (layout .entry) .tree) ⌝ }
+{}
