@@ -81,7 +81,7 @@ module _ (Y : RattleType) (g : Ghosts (Y .Denot)) (d : Dict) {M : Type 1} (𝓤 
         enter ! E Λ (fn′ Y g d) [] _ $ alloc-all ! (λ l. pass-all ! refl tt $
         sets ! (agg ! (no-more !)) refl (tt, tt) $ sets ! (agg ! (and-then ! (get ! refl) (no-more !))) refl (tt, (tt, tt)) $ returns ! (look-at ! 0 refl) $ free-all ! refl $
         suffices ! _ (ends-at 𝓤 H A (ended Y g d) (stayed Y g d) held W bound none made tt tt) $ says ! (refl, refl) $
-        pureI ! (R Y g d .own made (none ∷ [])) ((λ x. (tt, ((λ y. (tt, tt)), tt))), tt) (((vstruct vnil ∷ [], tt), (refl, ((tt, (refl, tt)), tt))), refl) $ nothing ! $ join ! $ move ! (1 ∷ 0 ∷ []) $ join ! $ done !)
+        pureI ! (R Y g d .own made (none ∷ [])) ((λ x. (tt, ((λ y. (tt, tt)), tt))), (tt, tt)) (((vstruct vnil ∷ [], tt), (refl, ((tt, (refl, tt)), tt))), (refl, refl)) $ nothing ! $ join ! $ move ! (1 ∷ 0 ∷ []) $ join ! $ done !)
 
   meets : (𝓣 : Tables 𝓤 H) → Meets 𝓤 H A (ended Y g d .signature) (WpFn 𝓤 H (𝓣 .C) (𝓣 .Λ) (fn′ Y g d)) (closing 𝓤 H A (ended Y g d) held)
   meets 𝓣 =

@@ -37,7 +37,7 @@ use denote.Triple.Spec.{Meets, tripleOf}
 use denote.Triple.Table.{entered}
 use denote.Triple.Walked.{says, Stays, stay-dropped, walkOf, ends-at, walked, goes-dropped, walk-meets}
 use Rattle.std.specs.contracts.marker.PhantomData as P
-use Rattle.cascade.specs.Trees.{augmentedLists}
+use Rattle.layout.specs.Facts.{laidOut}
 use Rattle.orders.specs.declared.KeyOrder.{Ghosts}
 use Rattle.layout.specs.declared.Layout.{Layout}
 use Rattle.layout.specs.contracts.Layout as C
@@ -82,13 +82,13 @@ module _ (Y : RattleType) (g : Ghosts (Y .Denot)) (d : Dict) {M : Type 1} (𝓤 
     walk : ent 𝓤 (onEntry 𝓤 H A (ended Y g d .signature) κs qs (s, tt) (ptr-vals s, tt)) (WpFn 𝓤 H E Λ (fn′ Y g d) (ptr-vals s) Post)
     walk =
         qed W (raw toks ∷ ‵ (owns (ShrRef (named 0) (κs .0) (R Y g d) ∷ []) (s, tt) (ptr-vals s, tt)) ∷ []) ∵ move ! (1 ∷ []) $ fsplit ! $ fsplit3 ! $ drop ! $ move ! (1 ∷ []) $
-        use1 W (‵ (shrAt (Struct (shape (C.the-type (K Y g d) g))) (κs .0) (to (C.the-type (K Y g d) g) (now s)) (s .ptr .0) (s .ptr .1)) ⊛ ‵ (fhide (feq (List (List (ℕ × Y .Denot))) (now s .augmented) (augmentedLists (g .order) (now s .tree)))))
+        use1 W (‵ (shrAt (Struct (shape (C.the-type (K Y g d) g))) (κs .0) (to (C.the-type (K Y g d) g) (now s)) (s .ptr .0) (s .ptr .1)) ⊛ ‵ (fhide (laidOut (g .order) (now s .tree) (now s .augmented))))
         (lent-out 𝓤 H A W (C.struct (K Y g d) g) (C.the-codes (Y .Denot) (K Y g d .coded) (P.the-row (K Y g d) .coded)) (C.the-heap (K Y g d) g) (C.the-lent (K Y g d) g) (κs .0) (now s) (s .ptr .0) (s .ptr .1)) $ split ! $
-        move ! (1 ∷ []) $ unhide ! $ feqL ! (λ e. keep ! (3 ∷ []) $
+        move ! (1 ∷ []) $ unhide ! $ fsplit ! $ feqL ! (λ e. feqL ! (λ o. keep ! (3 ∷ []) $
         enter ! E Λ (fn′ Y g d) (ptr-vals s) _ $ alloc-all ! (λ l. pass-all ! refl ((tt, tt), tt) $
         sets ! (of-opd ! (unit-lit !)) refl (tt, tt) $ returns ! (look-at ! 0 refl) $ free-all ! refl $
-        suffices ! _ (ends-at 𝓤 H A (ended Y g d) (stayed Y g d) held W bound vunit tt (tt, tt) (tt, tt)) $ says ! e $
-        feqI ! (List Val) (vunit ∷ []) (vunit ∷ []) refl $ nothing ! $ nothing ! $ fjoin ! $ join ! $ move ! (1 ∷ 0 ∷ []) $ join ! $ done !))
+        suffices ! _ (ends-at 𝓤 H A (ended Y g d) (stayed Y g d) held W bound vunit tt (tt, tt) (tt, tt)) $ says ! (e, o) $
+        feqI ! (List Val) (vunit ∷ []) (vunit ∷ []) refl $ nothing ! $ nothing ! $ fjoin ! $ join ! $ move ! (1 ∷ 0 ∷ []) $ join ! $ done !)))
 
   meets : (𝓣 : Tables 𝓤 H) → Meets 𝓤 H A (ended Y g d .signature) (WpFn 𝓤 H (𝓣 .C) (𝓣 .Λ) (fn′ Y g d)) (closing 𝓤 H A (ended Y g d) held)
   meets 𝓣 =

@@ -4,15 +4,12 @@ use denote.Param.Laws.{Laws}
 use denote.Param.Shared.{copy-shared}
 use denote.Struct.Laws.{field-copy}
 use denote.Struct.Lending.{lends-said, of-lends}
-use mathlib.Core.List.{List}
-use Prim.Native.Nat.{ℕ}
-use base.Fml.{feq}
 use Rattle.std.specs.contracts.marker.PhantomData as P
-use Rattle.cascade.specs.Trees.{augmentedLists}
+use Rattle.layout.specs.Facts.{laidOut}
 use Rattle.orders.specs.declared.KeyOrder.{Ghosts}
 use Rattle.layout.specs.contracts.Layout as C
 use Rattle.layout.proofs.Layout.the-law.Statement.{statement}
 
 pub shares : (K : RattleType) (g : Ghosts (K .Denot)) (L : Laws K) → statement K g L
 shares K g L = of-lends (C.struct K g) (C.the-codes (K .Denot) (K .coded) (P.the-row K .coded)) (C.the-heap K g) (C.the-lent K g) (copy-shared (P.the-field K) (field-copy (P.the-type K) tt), tt) (λ M 𝓤 H A W d p.
-    lends-said 𝓤 H A W (feq (List (List (ℕ × K .Denot))) (d .augmented) (augmentedLists (g .order) (d .tree))) tt (C.the-row K g .lives))
+    lends-said 𝓤 H A W (laidOut (g .order) (d .tree) (d .augmented)) (tt, tt) (C.the-row K g .lives))
