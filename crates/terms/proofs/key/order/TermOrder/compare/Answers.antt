@@ -1,7 +1,7 @@
 use mathlib.Core.Path.{_≡_, sym, ap, _∙_}
-use Prim.Native.Nat.{ℕ, _+_, _*_, _≤_}
+use Prim.Native.Nat.{ℕ, _+_, _*_}
 use native.Mathlib.Omega.{arith}
-use lib.ListN.{length, drop}
+use lib.ListN.{drop}
 use Rattle.terms.specs.Order.{textOrder}
 use Rattle.terms.proofs.Lexes.{at-less, at-greater, at-same, at-end, padded-order}
 use Rattle.terms.proofs.key.order.TermOrder.compare.Needs as need
