@@ -11,11 +11,11 @@ use Rattle.std.proofs.shelf.Tests.{cases-order, and-parts, leb-true, ltb-true, 
 use Rattle.std.proofs.shelf.Ways.{decides-below-and}
 use Rattle.shelves.specs.Slots.{sieveLists, slotCount, sieveDepth, firstSlot, widthOf}
 
--- at list v: the depth is that of v + 1 between two powers of two, and the slots end in time
+-- at list v: v + 1 lies between two powers of two, and the width is what a shift of 64 gives
 abbrev fitting : ℕ → Bool
 fitting v =
     (leb (2 ^ sieveDepth v) (v + 1) && ltb (v + 1) (2 * 2 ^ sieveDepth v))
-    && (ltb (sieveDepth v) 7 && (eqb (slotCount / 2 ^ sieveDepth v) (widthOf v) && leb (firstSlot v + widthOf v) slotCount))
+    && (ltb (sieveDepth v) 7 && eqb (slotCount / 2 ^ sieveDepth v) (widthOf v))
 
 abbrev allFitting : ℕ → Bool
 allFitting zero = true
@@ -26,15 +26,13 @@ pub record Fitting (v : ℕ) : Type 0 where
   pub high : v + 1 < 2 * 2 ^ sieveDepth v
   pub shallow : sieveDepth v < 7
   pub width : slotCount / 2 ^ sieveDepth v ≡ widthOf v
-  pub ends : firstSlot v + widthOf v ≤ slotCount
 
 pub fits : (v : ℕ) → v < sieveLists → Fitting v
 fits v h =
     let t = and-parts _ _ (decides-below-and fitting (λ k. fitting k ≡ true) allFitting (λ k. (λ e. e, λ e. e)) refl (λ _. refl) sieveLists .0 refl v h) in
     let a = and-parts _ _ (t .0) in
     let b = and-parts _ _ (t .1) in
-    let d = and-parts _ _ (b .1) in
-    record { low = leb-true _ _ (a .0); high = ltb-true _ _ (a .1); shallow = ltb-true _ _ (b .0); width = eqb-true _ _ (d .0); ends = leb-true _ _ (d .1) }
+    record { low = leb-true _ _ (a .0); high = ltb-true _ _ (a .1); shallow = ltb-true _ _ (b .0); width = eqb-true _ _ (b .1) }
 
 -- a number lies between only two powers of two that follow one another
 not-above : (n d e : ℕ) → n < 2 * 2 ^ d → 2 ^ e ≤ n → d < e → ⊥

@@ -1,5 +1,4 @@
-use mathlib.Core.Path.{ap, _∙_, sym, _≡_}
-use Prim.Native.Nat.{_+_, _<_, _^_}
+use Prim.Native.Nat.{_+_}
 use native.Mathlib.Omega.{arith}
 use lib.Pow.{pow-add}
 use Rattle.shelves.proofs.Depths.{fits, same-power}
