@@ -1,12 +1,86 @@
 // The calls on an index.
 ghost use mathlib.Core.Path.{_≡_};
+ghost use Rattle.register.specs.Questions.{unless, placeFault};
+ghost use Rattle.layout.specs.KeyTrees.{keyTree};
 ghost use Rattle.index.specs.Held.{machineOf};
+ghost use Rattle.index.specs.Machine.{Sound, blank, cleared, afterAmend};
 use crate::Index;
+use crate::Memory;
 use cascade::row::Row;
+use faults::Fault;
+use faults::Reason;
+use layout::empty;
+use layout::known;
 use orders::KeyOrder;
 use orders::Payload;
+use plan::table::ListRun;
+use plan::table::ListTable;
+
+// The table of no lists.
+fn no_lists() -> ListTable
+    ensures { λ r. ⌜ r .len ≡ 0 ⌝ }
+{
+    let none = ListRun {
+        parent: 0,
+        ordinal: 0,
+        start: 0,
+        length: 0,
+        first: 0,
+        count: 0,
+    };
+    ListTable {
+        len: 0,
+        runs: [none; 128],
+    }
+}
 
 impl<'m, K: KeyOrder, P: Payload> Index<'m, K, P> {
+    // An index of no lists over lent memory, which stays as it is.
+    pub fn set_up(keys: &'m mut [K], rows: &'m mut [Row], payloads: &'m mut [P]) -> Self
+        ensures { λ r. ⌜ machineOf r ≡ blank (now (keys .entry)) (now (rows .entry)) (now (payloads .entry)) ⌝ }
+    {
+        Index {
+            memory: Memory {
+                keys,
+                rows,
+                payloads,
+            },
+            table: no_lists(),
+            layout: empty(),
+        }
+    }
+
+    // Back to no lists. The memory stays as it is.
+    pub fn clear(&mut self)
+        ensures { λ _. ⌜ machineOf (now (self .exit)) ≡ cleared (machineOf (now (self .entry))) ⌝ }
+    {
+        self.table = no_lists();
+        self.layout = empty();
+    }
+
+    // Joins a payload to the entry at a place of a list, or refuses: no such list, then no such place.
+    pub fn amend(&mut self, list: usize, place: usize, by: P) -> Result<(), Fault>
+        ensures answer { λ r. ⌜ r ≡ unless (placeFault (keyTree (machineOf (now (self .entry)) .register)) list place) tt ⌝ }
+        ensures after { λ _. ⌜ machineOf (now (self .exit)) ≡ afterAmend joined (machineOf (now (self .entry))) list place by ⌝ }
+    {
+        if list >= self.table.len {
+            return Err(Fault::new(Reason::NoSuchList, list, 0));
+        }
+        let run = self.table.runs[list];
+        if place >= run.count {
+            return Err(Fault::new(Reason::NoSuchPlace, list, place));
+        }
+        self.memory.amend(run.first + place, by);
+        Ok(())
+    }
+
+    // What holds of every index.
+    pub fn sound(&self)
+        ensures { λ _. ⌜ Sound order (machineOf (now (self .entry))) ⌝ }
+    {
+        known(&self.layout);
+    }
+
     // The whole key memory, as it is.
     pub fn keys(&self) -> &[K]
         ensures { λ r. ⌜ now r ≡ machineOf (now (self .entry)) .keys ⌝ }

@@ -1,0 +1,4 @@
+use Rattle.index.proofs.Index.sound.Needs as need
+
+pub returns : need.returns
+returns g c = ?
