@@ -3,7 +3,7 @@ ghost use mathlib.Core.Path.{_≡_};
 ghost use Prim.Native.Nat.{_+_, _<_, _≤_, _^_};
 ghost use Rattle.std.specs.Options.{Cases};
 ghost use Rattle.shelves.specs.Sieving.{inSlots};
-ghost use Rattle.shelves.specs.Slots.{sieveDepth, firstSlot, widthOf};
+ghost use Rattle.shelves.specs.Slots.{sieveLists, sieveDepth, firstSlot, widthOf};
 
 // How many lists the sieve has, and how many slots.
 pub const SIEVE_LISTS: usize = 127;
@@ -19,7 +19,7 @@ pub struct Slots {
 
 // The depth of a list; nothing where the sieve has no such list.
 pub fn depth_of(list: usize) -> Option<u32>
-    ensures { λ r. ⌜ Cases r (127 ≤ list) (λ d. (list < 127) × (d ≡ sieveDepth list) × (2 ^ d ≤ list + 1) × (list + 1 < 2 ^ (d + 1))) ⌝ }
+    ensures { λ r. ⌜ Cases r (sieveLists ≤ list) (λ d. (list < sieveLists) × (d ≡ sieveDepth list) × (2 ^ d ≤ list + 1) × (list + 1 < 2 ^ (d + 1))) ⌝ }
 {
     if list < SIEVE_LISTS {
         Some((list + 1).ilog2())
@@ -31,7 +31,7 @@ pub fn depth_of(list: usize) -> Option<u32>
 impl Slots {
     // The slots that a list covers; nothing where the sieve has no such list.
     pub fn of(list: usize) -> Option<Slots>
-        ensures { λ r. ⌜ Cases r (127 ≤ list) (λ s. (list < 127) × (s .first ≡ firstSlot list) × (s .end ≡ firstSlot list + widthOf list)) ⌝ }
+        ensures { λ r. ⌜ Cases r (sieveLists ≤ list) (λ s. (list < sieveLists) × (s .first ≡ firstSlot list) × (s .end ≡ firstSlot list + widthOf list)) ⌝ }
     {
         let depth = depth_of(list)?;
         let width = SLOT_COUNT >> depth;
