@@ -1,2 +1,3 @@
 pub mod Dressing
 pub mod Facts
+pub mod Sounding

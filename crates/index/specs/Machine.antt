@@ -72,6 +72,6 @@ module _ {K P : Type 0} (order : K → K → Ordering) where
   pub record Sound (m : Machine K P) : Type 0 where
     pub shaped : Shaped (keyTree (m .register))
     pub keysUsed : take (allAugmented order (keyTree (m .register))) (m .keys) ≡ keysLaid (augmentedLists order (keyTree (m .register)))
-    pub rowsUsed : take (allAugmented order (keyTree (m .register)) + length (m .register)) (m .rows) ≡ rowsLaid (augmentedLists order (keyTree (m .register)))
+    pub rowsUsed : take (allAugmented order (keyTree (m .register)) + length (keyTree (m .register))) (m .rows) ≡ rowsLaid (augmentedLists order (keyTree (m .register)))
     pub payloadsUsed : take (allKeys (keyTree (m .register))) (m .payloads) ≡ payloadsLaid (m .register)
     pub space : 3 * allAugmented order (keyTree (m .register)) ≤ 4 * allKeys (keyTree (m .register))

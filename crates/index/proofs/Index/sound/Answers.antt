@@ -1,4 +1,5 @@
+use Rattle.index.proofs.Sounding.{sound-of}
 use Rattle.index.proofs.Index.sound.Needs as need
 
 pub returns : need.returns
-returns g c = ?
+returns g c = sound-of (g .K·KeyOrder .order) (c .args .self .now) (c .known .ensures .0)
