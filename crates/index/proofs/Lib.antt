@@ -1,3 +1,4 @@
 pub mod Dressing
 pub mod Facts
 pub mod Sounding
+pub mod Amending

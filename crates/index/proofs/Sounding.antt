@@ -21,14 +21,14 @@ use Rattle.index.specs.declared.Index.{Index}
 use Rattle.index.proofs.Dressing.{tree-dressed, payloads-dressed}
 use Rattle.index.proofs.Facts.{runs-out, rows-out}
 
-module _ {K P : Type 0} (order : K → K → Ordering) (i : Index K P) where
+module _ {K P : Type 0} (i : Index K P) where
   pub shape-of : Shaped (i .layout .tree)
   shape-of = record { lists = i .few; smaller = i .smaller; shallow = i .shallow; narrow = i .narrow; entries = i .small }
 
   pub tree-of : keyTree (machineOf i .register) ≡ i .layout .tree
   tree-of = tree-dressed (i .layout .tree) (now (i .memory .payloads)) (i .loaded)
 
-  module _ (known : i .layout .augmented ≡ augmentedLists order (i .layout .tree)) where
+  module _ (order : K → K → Ordering) (known : i .layout .augmented ≡ augmentedLists order (i .layout .tree)) where
     pub laid-of : Laid order (i .layout .tree) (i .table) (now (i .memory .keys)) (now (i .memory .rows))
     laid-of =
         let t = i .layout .tree in
