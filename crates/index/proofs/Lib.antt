@@ -2,3 +2,4 @@ pub mod Dressing
 pub mod Facts
 pub mod Sounding
 pub mod Amending
+pub mod Answering
