@@ -1,0 +1,2 @@
+// Walks over the lists of an index as they lie in memory: lookups, offers and ranges.
+pub mod search;
