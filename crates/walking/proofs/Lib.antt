@@ -1,0 +1,6 @@
+mod Halving
+mod Stepping
+mod Tagging
+mod Runs
+mod Lying
+mod Paths

@@ -1,0 +1,3 @@
+// Walks over the lists of an index as they lie in memory: lookups, offers and ranges.
+pub mod search;
+pub mod walk;
