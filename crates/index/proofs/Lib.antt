@@ -3,3 +3,4 @@ pub mod Facts
 pub mod Sounding
 pub mod Amending
 pub mod Answering
+pub mod Looking
