@@ -4,3 +4,4 @@ pub mod Sounding
 pub mod Amending
 pub mod Answering
 pub mod Looking
+pub mod Building
