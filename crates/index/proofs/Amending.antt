@@ -1,6 +1,6 @@
 -- Amending one entry. Assumes nothing.
-use mathlib.Core.Path.{_≡_, refl, sym, ap, ap₂, subst, _∙_}
-use mathlib.Core.List.{List, []}
+use mathlib.Core.Path.{_≡_, sym, ap, ap₂, _∙_}
+use mathlib.Core.List.{List}
 use Prim.Native.Nat.{ℕ, _+_, _^_, _<_, _≤_}
 use native.Mathlib.Omega.{arith}
 use denote.Ref.{now}
@@ -12,18 +12,18 @@ use Rattle.faults.specs.Refusals.{fault}
 use Rattle.faults.specs.declared.Fault.{Fault}
 use Rattle.faults.specs.declared.Reason.the-variants.{NoSuchList, NoSuchPlace}
 use Rattle.cascade.specs.declared.row.Row.{Row}
-use Rattle.cascade.specs.Trees.{KeyTree, Tagged, keysAt, allKeys}
+use Rattle.cascade.specs.Trees.{KeyTree, keysAt, allKeys}
 use Rattle.layout.specs.KeyTrees.{keyTree}
 use Rattle.plan.proofs.Runs.{run-at, first-within}
-use Rattle.plan.specs.Table.{Tabled, runAt}
+use Rattle.plan.specs.Table.{runAt}
 use Rattle.plan.specs.declared.table.ListRun.{ListRun}
 use lib.Dec.{ltb}
 use Rattle.register.specs.Questions.{ask, placeFault, listFault}
 use Rattle.register.specs.Register.{Register, changedAt}
 use Rattle.index.specs.Held.{machineOf, dressed}
-use Rattle.index.specs.Machine.{Machine, granted, amendedAt, afterAmend}
+use Rattle.index.specs.Machine.{granted, amendedAt, afterAmend}
 use Rattle.index.specs.declared.Index.{Index}
-use Rattle.index.proofs.Dressing.{tree-dressed, dressed-changed}
+use Rattle.index.proofs.Dressing.{dressed-changed}
 use Rattle.index.proofs.Facts.{runs-out}
 use Rattle.index.proofs.Sounding.{tree-of}
 

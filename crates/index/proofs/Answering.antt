@@ -3,13 +3,11 @@ use mathlib.Core.Path.{_≡_, refl, sym, ap, ap₂, subst, _∙_}
 use mathlib.Core.Bool.{Bool, true, false}
 use mathlib.Core.List.{List, [], _∷_, _++_, map}
 use Prim.Native.Nat.{ℕ, zero, suc, _+_, _-_, _<_, _≤_}
-use native.Mathlib.Nat.{zero-add}
 use native.Mathlib.Omega.{arith}
-use lib.ListN.{length, getD, take, drop, length-drop}
+use lib.ListN.{length, take, drop}
 use lib.Seq.{drop-drop}
 use Rattle.std.proofs.shelf.Lists.{map-append}
 use Rattle.std.proofs.shelf.Sums.{sumBy-cons}
-use Rattle.std.specs.Finite.{nth}
 use Rattle.std.specs.Orderings.{isLe, isLt}
 use Rattle.std.specs.declared.cmp.Ordering.{Ordering}
 use Rattle.std.specs.declared.cmp.Ordering.the-variants.{Less, Equal, Greater}
@@ -17,7 +15,7 @@ use Rattle.orders.specs.declared.entry.Entry.{Entry}
 use Rattle.orders.specs.declared.side.Side.{Side}
 use Rattle.orders.specs.declared.side.Side.the-variants.{Low, High}
 use Rattle.orders.specs.Places.{bit, count, passed, place}
-use Rattle.shelves.specs.Meaning.{Branch, entriesOf, payloadsOf}
+use Rattle.shelves.specs.Meaning.{payloadsOf}
 use Rattle.cascade.proofs.Counts.{count-le-length}
 use Rattle.cascade.proofs.Walking.{path-step}
 use Rattle.cascade.specs.Trees.{KeyTree, ParentsSmaller, parentOf, keysAt, path, allKeys}

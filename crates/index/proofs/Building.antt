@@ -1,10 +1,10 @@
 -- A build: the facts of the new index, and its machine. Assumes nothing.
-use mathlib.Core.Path.{_≡_, refl, sym, ap, ap₂, subst, _∙_}
-use mathlib.Core.Bool.{Bool, true, false, _&&_}
+use mathlib.Core.Path.{_≡_, refl, sym, ap, ap₂, _∙_}
+use mathlib.Core.Bool.{true}
 use mathlib.Core.List.{List, [], _∷_, _++_, map}
-use Prim.Native.Nat.{ℕ, zero, suc, _+_, _-_, _<_, _≤_}
+use Prim.Native.Nat.{ℕ, suc, _+_, _-_, _<_}
 use native.Mathlib.Omega.{arith}
-use lib.ListN.{length, take, drop, length-append, length-drop}
+use lib.ListN.{length, take, drop, length-append}
 use lib.Seq.{take-append-seam}
 use Rattle.std.proofs.shelf.Lists.{length-map}
 use Rattle.std.proofs.shelf.Counted.{length-map-counting}
@@ -24,7 +24,7 @@ use Rattle.layout.specs.KeyTrees.{keyTree, allInOrder}
 use Rattle.plan.specs.Table.{Tabled}
 use Rattle.plan.specs.declared.table.ListTable.{ListTable}
 use Rattle.register.specs.Memory.{joinedLists, keysLaid, rowsLaid, payloadsLaid}
-use Rattle.register.specs.Questions.{Sizes, buildFault, listsFault, memoryFault}
+use Rattle.register.specs.Questions.{buildFault}
 use Rattle.register.specs.Register.{Register}
 use Rattle.register.specs.Shape.{Shaped}
 use Rattle.index.specs.Held.{dressed}

@@ -1,7 +1,7 @@
 -- Lists of keys with the payloads of payload memory. Assumes nothing.
-use mathlib.Core.Path.{_≡_, refl, sym, ap, ap₂, subst, _∙_}
-use mathlib.Core.List.{List, [], _∷_, _++_, map, append-nil, append-assoc}
-use Prim.Native.Nat.{ℕ, zero, suc, _+_, _-_, _<_, _≤_, min}
+use mathlib.Core.Path.{_≡_, refl, sym, ap, ap₂, _∙_}
+use mathlib.Core.List.{List, [], _∷_, _++_, append-assoc}
+use Prim.Native.Nat.{ℕ, zero, suc, _+_, _-_, _<_, _≤_}
 use native.Mathlib.Nat.{zero-add, suc-add}
 use native.Mathlib.Omega.{arith}
 use lib.ListN.{length, getD, set, take, drop, length-drop, length-append}
@@ -11,7 +11,7 @@ use Rattle.orders.specs.declared.entry.Entry.{Entry}
 use Rattle.shelves.specs.Meaning.{Branch, keysOf, payloadsOf}
 use Rattle.cascade.specs.Trees.{KeyTree, keysAt, allKeys}
 use Rattle.layout.specs.KeyTrees.{keyTree}
-use Rattle.register.specs.Memory.{joinedLists, payloadsLaid}
+use Rattle.register.specs.Memory.{payloadsLaid}
 use Rattle.register.specs.Register.{changedAt, amendedEntry, amendedList}
 use Rattle.index.specs.Held.{paired, dressed}
 

@@ -1,17 +1,15 @@
 -- The facts that an index's type carries, put together and read. Assumes nothing.
-use mathlib.Core.Path.{_≡_, refl, sym, ap, ap₂, subst, _∙_}
+use mathlib.Core.Path.{_≡_, refl, sym, ap, subst}
 use mathlib.Core.Logic.{∥∥₁-elim}
-use mathlib.Core.List.{List, [], _∷_}
-use Prim.Native.Nat.{ℕ, _+_, _*_, _<_, _≤_}
+use mathlib.Core.List.{List, []}
+use Prim.Native.Nat.{ℕ, _+_, _<_, _≤_}
 use native.Mathlib.Omega.{arith}
 use base.Stored.{coded-set, codedList}
 use lib.ListN.{length, take}
 use Rattle.std.specs.shelf.Lists.{sumBy}
-use Rattle.std.specs.declared.cmp.Ordering.{Ordering}
 use Rattle.cascade.specs.contracts.row.Row.{the-row as row-row}
 use Rattle.cascade.specs.declared.row.Row.{Row}
-use Rattle.cascade.specs.Trees.{KeyTree, Tagged, parentOf, ordinal, depthOf, allKeys, allAugmented, augmentedLists}
-use Rattle.plan.specs.Laid.{Laid}
+use Rattle.cascade.specs.Trees.{KeyTree, Tagged, parentOf, ordinal, depthOf, allKeys}
 use Rattle.plan.specs.Table.{Tabled, runsOf}
 use Rattle.plan.specs.contracts.table.ListRun.{the-row as run-row}
 use Rattle.plan.specs.declared.table.ListRun.{ListRun}

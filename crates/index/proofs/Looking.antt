@@ -1,26 +1,24 @@
 -- Walked lookups and offers are the plain register's answers. Assumes nothing.
-use mathlib.Core.Path.{_≡_, refl, sym, ap, ap₂, subst, _∙_}
-use mathlib.Core.List.{List, [], _∷_, _++_, map}
-use Prim.Native.Nat.{ℕ, _+_, _-_, _*_, _<_, _≤_}
-use native.Mathlib.Omega.{arith}
-use lib.ListN.{length, take, drop}
+use mathlib.Core.Path.{_≡_, refl, sym, ap, ap₂, _∙_}
+use mathlib.Core.List.{List, [], _∷_, map}
+use Prim.Native.Nat.{ℕ, _-_, _<_, _≤_}
+use lib.ListN.{length}
 use Rattle.std.proofs.shelf.Lists.{length-map}
 use Rattle.std.specs.shelf.Lists.{folded}
 use Rattle.std.specs.declared.cmp.Ordering.{Ordering}
-use Rattle.orders.specs.declared.entry.Entry.{Entry}
 use Rattle.orders.specs.declared.side.Side.{Side}
 use Rattle.orders.specs.declared.side.Side.the-variants.{Low, High}
 use Rattle.orders.specs.Laws.{LawfulOrder}
 use Rattle.orders.specs.Places.{place}
 use Rattle.shelves.specs.Meaning.{payloadsOf}
-use Rattle.cascade.proofs.Walking.{walks, lookup-within}
+use Rattle.cascade.proofs.Walking.{walks}
 use Rattle.cascade.specs.Trees.{KeyTree, ParentsSmaller, keysAt, path, allKeys}
 use Rattle.cascade.specs.Walks.{walkedPlace, stops}
 use Rattle.layout.specs.KeyTrees.{keyTree}
 use Rattle.register.specs.Answers.{stop, span, filledUp, lookupRead, offerRead, Stops, Spans}
 use Rattle.register.specs.Limits.{mostStops}
 use Rattle.register.specs.Memory.{joinedLists}
-use Rattle.register.specs.Register.{Register, looked, offered, spanned, summed, placeIn}
+use Rattle.register.specs.Register.{Register, looked, offered, spanned, summed}
 use Rattle.register.specs.declared.answers.Span.{Span}
 use Rattle.register.specs.declared.answers.Stop.{Stop}
 use Rattle.walking.specs.Walked.{lookedUp, offeredAt, offeredSpans, spanPayloads, spansPayloads}

@@ -1,22 +1,20 @@
 -- What the facts of an index say of its machine. Assumes nothing.
-use mathlib.Core.Path.{_≡_, refl, sym, ap, ap₂, subst, _∙_}
-use mathlib.Core.List.{List, []}
-use Prim.Native.Nat.{ℕ, _+_, _*_, _<_, _≤_}
-use native.Mathlib.Omega.{arith}
+use mathlib.Core.Path.{_≡_, sym, ap, subst, _∙_}
+use mathlib.Core.List.{List}
+use Prim.Native.Nat.{_+_}
 use denote.Ref.{now}
-use lib.ListN.{length, getD, take}
-use lib.Seq.{length-take-le}
+use lib.ListN.{length, take}
 use Rattle.std.specs.shelf.Lists.{sumBy}
 use Rattle.std.specs.declared.cmp.Ordering.{Ordering}
 use Rattle.cascade.proofs.Spacing.{space}
 use Rattle.cascade.specs.Trees.{KeyTree, Tagged, allKeys, allAugmented, augmentedLists}
 use Rattle.layout.specs.KeyTrees.{keyTree}
 use Rattle.plan.specs.Laid.{Laid}
-use Rattle.plan.specs.Table.{Tabled, runsOf}
+use Rattle.plan.specs.Table.{runsOf}
 use Rattle.register.specs.Memory.{keysLaid, rowsLaid}
 use Rattle.register.specs.Shape.{Shaped}
-use Rattle.index.specs.Held.{machineOf, dressed}
-use Rattle.index.specs.Machine.{Machine, Sound}
+use Rattle.index.specs.Held.{machineOf}
+use Rattle.index.specs.Machine.{Sound}
 use Rattle.index.specs.declared.Index.{Index}
 use Rattle.index.proofs.Dressing.{tree-dressed, payloads-dressed}
 use Rattle.index.proofs.Facts.{runs-out, rows-out}

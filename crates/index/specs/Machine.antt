@@ -1,6 +1,6 @@
 -- The plain register with the three memories that the index is kept in, and what each call does to them.
 use mathlib.Core.Path.{_≡_}
-use mathlib.Core.List.{List, [], _∷_, _++_}
+use mathlib.Core.List.{List, [], _++_}
 use Prim.Native.Nat.{ℕ, _+_, _*_, _≤_}
 use lib.ListN.{length, take, drop}
 use Rattle.std.specs.declared.cmp.Ordering.{Ordering}
@@ -9,7 +9,7 @@ use Rattle.std.specs.declared.option.Option.the-variants.{Some, None}
 use Rattle.faults.specs.declared.Fault.{Fault}
 use Rattle.shelves.specs.Meaning.{Branch}
 use Rattle.cascade.specs.declared.row.Row.{Row}
-use Rattle.cascade.specs.Trees.{KeyTree, augmentedLists, allAugmented, allKeys}
+use Rattle.cascade.specs.Trees.{augmentedLists, allAugmented, allKeys}
 use Rattle.layout.specs.KeyTrees.{keyTree}
 use Rattle.register.specs.Memory.{keysLaid, rowsLaid, payloadsLaid}
 use Rattle.register.specs.Questions.{Sizes, buildFault, placeFault}

@@ -1,11 +1,9 @@
 -- What build lays down in the three memories for lists.
 use mathlib.Core.List.{List, [], _∷_, _++_, map}
-use Prim.Native.Nat.{ℕ}
-use Rattle.std.specs.declared.cmp.Ordering.{Ordering}
 use Rattle.shelves.specs.Meaning.{Branch, payloadsOf}
 use Rattle.cascade.specs.declared.row.Row.{Row}
 use Rattle.cascade.specs.Rows.{rowsOf}
-use Rattle.cascade.specs.Trees.{KeyTree, Tagged, keysOf, augmentedLists}
+use Rattle.cascade.specs.Trees.{Tagged, keysOf}
 
 abbrev pub joinedLists : {X : Type 0} → List (List X) → List X
 joinedLists [] = []

@@ -1,29 +1,25 @@
 -- The plain register: lists with parents and entries, at first none. Nothing is searched: a place is the number of entries
 -- passed.
-use mathlib.Core.Bool.{Bool, cond}
 use mathlib.Core.List.{List, [], _∷_, map}
 use Prim.Native.Nat.{ℕ, zero, suc, _-_}
 use lib.ListN.{length, take, drop}
 use Rattle.std.specs.Finite.{nth}
 use Rattle.std.specs.shelf.Lists.{folded}
 use Rattle.std.specs.declared.cmp.Ordering.{Ordering}
-use Rattle.std.specs.declared.option.Option.{Option}
-use Rattle.std.specs.declared.option.Option.the-variants.{Some, None}
 use Rattle.std.specs.declared.result.Result.{Result}
 use Rattle.faults.specs.declared.Fault.{Fault}
 use Rattle.orders.specs.declared.entry.Entry.{Entry}
 use Rattle.orders.specs.declared.side.Side.{Side}
 use Rattle.orders.specs.declared.side.Side.the-variants.{Low, High}
 use Rattle.orders.specs.Places.{place}
-use Rattle.shelves.specs.Meaning.{Branch, entriesOf, keysOf, payloadsOf}
-use Rattle.cascade.specs.Trees.{KeyTree, keysAt, path}
+use Rattle.shelves.specs.Meaning.{Branch, entriesOf, payloadsOf}
+use Rattle.cascade.specs.Trees.{keysAt, path}
 use Rattle.layout.specs.KeyTrees.{keyTree}
 use Rattle.register.specs.Limits.{mostStops}
-use Rattle.register.specs.Questions.{unless, listFault, placeFault}
+use Rattle.register.specs.Questions.{unless, listFault}
 use Rattle.register.specs.Memory.{joinedLists}
 use Rattle.register.specs.Answers.{stop, span, filledUp, Stops, Spans}
 use Rattle.register.specs.declared.answers.Span.{Span}
-use Rattle.register.specs.declared.answers.Stop.{Stop}
 
 -- one element changed; none past the end
 abbrev pub changedAt : {X : Type 0} → (X → X) → ℕ → List X → List X

@@ -5,7 +5,7 @@ use mathlib.Core.List.{List, [], _∷_, _++_}
 use Prim.Native.Nat.{ℕ, zero, suc, _+_, _*_, _/_, _%_, _<_, _≤_}
 use native.Mathlib.Omega.{arith}
 use lib.Dec.{eqb, leb}
-use lib.ListN.{length, getD, take, drop, length-append, length-take, length-drop, take-append-drop}
+use lib.ListN.{length, getD, take, drop, length-take, length-drop, take-append-drop}
 use lib.Seq.{getD-take, getD-drop, length-take-le}
 use Rattle.std.proofs.shelf.Lists.{drop-all, getD-past}
 use Rattle.std.proofs.shelf.Ways.{tells}
@@ -19,8 +19,8 @@ use Rattle.faults.specs.Refusals.{fault, withSecond}
 use Rattle.faults.specs.declared.Reason.the-variants.{FieldIncomplete, FieldNotAllowed}
 use Rattle.faults.specs.declared.Fault.{Fault}
 use Rattle.terms.specs.Keys.{keyFault}
-use Rattle.treefiles.specs.Format.{TermEntry, TermList, allEntries, field, listField, entryField, closingField, fourBytes, entryFields, listFields, written, opening, IsTree, Keyed}
-use Rattle.treefiles.specs.Reader.{Item, aList, anEntry, theEnd, Tag, lists, entries, closes, other, tagOf, firstField, number, allowed, suits, content, said, keyed, entryIn, rootRight, ended, someItem, saidOf, nextItem, stageAfter, entriesIn, sizeOf, after, follow, items, gathered, treeOf}
+use Rattle.treefiles.specs.Format.{TermEntry, field, listField, entryField, closingField, fourBytes}
+use Rattle.treefiles.specs.Reader.{Item, aList, anEntry, theEnd, Tag, lists, entries, closes, other, tagOf, firstField, number, allowed, suits, said, keyed, entryIn, rootRight, ended, someItem, saidOf, nextItem, stageAfter, entriesIn, sizeOf, after, follow, items}
 use Rattle.treefiles.specs.declared.stage.Stage.{Stage}
 use Rattle.treefiles.specs.declared.stage.Stage.the-variants.{Opening, List as ListRead, Entry as EntryRead, Closing}
 

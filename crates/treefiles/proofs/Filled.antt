@@ -4,12 +4,9 @@ use mathlib.Core.Bool.{Bool, true, false, cond}
 use mathlib.Core.List.{List, [], _∷_, _++_, map, append-nil, append-assoc}
 use Prim.Native.Nat.{ℕ, zero, suc, _+_, _-_, _^_, _<_, _≤_}
 use native.Mathlib.Omega.{arith}
-use native.Mathlib.Numerals.{add-one}
-use denote.Ref.{now}
-use lib.ListN.{length, getD, take, drop, set, length-append, length-take, take-append-drop, length-set}
+use lib.ListN.{length, getD, take, drop, set, length-append, take-append-drop}
 use lib.Seq.{length-take-le}
-use Rattle.std.specs.declared.option.Option.{Option}
-use Rattle.std.specs.declared.option.Option.the-variants.{Some, None}
+use Rattle.std.specs.declared.option.Option.the-variants.{Some}
 use Rattle.std.specs.declared.result.Result.{Result}
 use Rattle.std.specs.declared.result.Result.the-variants.{Ok, Err}
 use Rattle.faults.specs.declared.Fault.{Fault}
@@ -21,16 +18,15 @@ use Rattle.treefiles.specs.Filling.{Room, CanStore, Stores, row, oneMore}
 use lib.Dec.{eqb}
 use Rattle.treefiles.specs.Format.{TermEntry, TermList, allEntries, opening}
 use Rattle.treefiles.specs.Loading.{Holds, entryRead, listRow}
-use Rattle.treefiles.specs.Reader.{Item, aList, anEntry, theEnd, begins, fileItems, items, after, treeOf, treeRead, read, nextItem}
+use Rattle.treefiles.specs.Reader.{Item, aList, anEntry, theEnd, begins, fileItems, after, treeOf, treeRead, read}
 use Rattle.treefiles.specs.Steps.{Moved, Begun, Reads, itemRead, countsOf}
 use Rattle.treefiles.specs.declared.item.Item.{Item as CodeItem}
 use Rattle.treefiles.specs.declared.item.Item.the-variants.{List as ListItem, Entry as EntryItem, Closing as ClosingItem}
-use Rattle.treefiles.specs.declared.loaded.Loaded.{Loaded}
 use Rattle.treefiles.specs.declared.loader.Loader.{Loader}
 use Rattle.treefiles.proofs.Closing.{Closes, first, not-ok}
 use Rattle.treefiles.proofs.Gathering.{listsAmong, entryOf, entriesAmong, lists-among-append, entries-among-append, lists-gathered, told}
 use Rattle.treefiles.proofs.Rows.{widened, widened-set, rowsFrom, rows-append, rows-of-tree, few-counted}
-use Rattle.treefiles.proofs.Runs.{Run, begun, begun-done, goes-on, done-one-more, comes-to-end, breaks-off, file-closed}
+use Rattle.treefiles.proofs.Runs.{Run, begun, begun-done, goes-on, done-one-more, file-closed}
 
 -- one write at the end of the front
 module _ {X : Type 0} where

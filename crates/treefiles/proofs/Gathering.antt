@@ -1,18 +1,13 @@
 -- Items gathered into a tree, and a tree's items. Assumes nothing.
-use mathlib.Core.Path.{_≡_, refl, sym, ap, ap₂, subst, _∙_}
-use mathlib.Core.Bool.{Bool, true, false, cond}
-use mathlib.Core.List.{List, [], _∷_, _++_, map, append-nil, append-assoc}
-use Prim.Native.Nat.{ℕ, zero, suc, _+_, _-_, _*_, _<_, _≤_}
+use mathlib.Core.Path.{_≡_, refl, sym, ap, subst, _∙_}
+use mathlib.Core.List.{List, [], _∷_, _++_, append-nil, append-assoc}
+use Prim.Native.Nat.{ℕ, suc, _+_, _-_}
 use native.Mathlib.Omega.{arith}
-use lib.ListN.{length, length-append}
-use Rattle.std.specs.declared.option.Option.the-variants.{None}
-use Rattle.shelves.specs.declared.rows.ListRow.{ListRow}
-use Rattle.terms.specs.Keys.{keyFault}
-use Rattle.treefiles.specs.Format.{TermEntry, TermList, allEntries, listField, entryField, closingField, entryFields, listFields, IsTree, RootFirst, Keyed}
-use Rattle.treefiles.specs.Loading.{listRow}
+use lib.ListN.{length}
+use Rattle.treefiles.specs.Format.{TermEntry, TermList, allEntries, listField, entryField, closingField, entryFields, listFields, IsTree, Keyed}
 use Rattle.treefiles.specs.Reader.{Item, aList, anEntry, theEnd, entriesIn, gathered, treeOf}
 use Rattle.treefiles.specs.Steps.{listsIn}
-use Rattle.treefiles.proofs.Closing.{Phase, first, within, behind, Accepts, Closes, itemField, itemFields}
+use Rattle.treefiles.proofs.Closing.{first, within, behind, Closes, itemFields}
 
 abbrev pub listsAmong : List Item → ℕ
 listsAmong [] = 0

@@ -1,16 +1,14 @@
 -- List rows as the items come. Assumes nothing.
-use mathlib.Core.Path.{_≡_, refl, sym, ap, subst, _∙_}
+use mathlib.Core.Path.{_≡_, refl, sym, ap, _∙_}
 use mathlib.Core.List.{List, [], _∷_, _++_, map, append-nil, append-assoc}
-use Prim.Native.Nat.{ℕ, zero, suc, _+_, _-_, _<_, _≤_}
+use Prim.Native.Nat.{ℕ, zero, suc, _+_, _-_, _≤_}
 use native.Mathlib.Omega.{arith}
-use native.Mathlib.Numerals.{sub-one}
-use lib.ListN.{length, getD, set, length-append}
+use lib.ListN.{length, getD, set}
 use Rattle.shelves.specs.declared.rows.ListRow.{ListRow}
 use Rattle.treefiles.specs.Filling.{row, oneMore}
-use Rattle.treefiles.specs.Format.{TermEntry, TermList}
 use Rattle.treefiles.specs.Loading.{listRow}
 use Rattle.treefiles.specs.Reader.{Item, aList, anEntry, theEnd, gathered, treeOf}
-use Rattle.treefiles.proofs.Gathering.{entryOf, entriesAmong, listsAmong}
+use Rattle.treefiles.proofs.Gathering.{entriesAmong}
 
 -- n entries more in the last row
 abbrev pub widened : ℕ → List ListRow → List ListRow

@@ -1,6 +1,6 @@
 -- A loader on its way through a file. Assumes nothing.
 use mathlib.Core.Path.{_≡_, refl, sym, ap, ap₂, subst, _∙_}
-use mathlib.Core.Bool.{Bool, true, false, cond}
+use mathlib.Core.Bool.{true}
 use mathlib.Core.List.{List, [], _∷_, _++_, append-nil, append-assoc}
 use Prim.Native.Nat.{ℕ, zero, suc, _+_, _-_, _<_, _≤_}
 use native.Mathlib.Omega.{arith}
@@ -12,14 +12,12 @@ use Rattle.std.specs.declared.option.Option.the-variants.{Some, None}
 use Rattle.std.specs.declared.result.Result.{Result}
 use Rattle.std.specs.declared.result.Result.the-variants.{Ok, Err}
 use Rattle.faults.specs.declared.Fault.{Fault}
-use Rattle.treefiles.specs.Format.{TermEntry, opening, allEntries}
-use Rattle.treefiles.specs.Loading.{sizes, checked}
-use Rattle.treefiles.specs.Reader.{Item, aList, anEntry, theEnd, nextItem, stageAfter, entriesIn, sizeOf, after, follow, items, begins, fileItems, treeOf, treeRead, read}
+use Rattle.treefiles.specs.Format.{opening}
+use Rattle.treefiles.specs.Loading.{sizes}
+use Rattle.treefiles.specs.Reader.{Item, aList, anEntry, theEnd, nextItem, entriesIn, sizeOf, after, follow, items, begins, fileItems, treeOf}
 use Rattle.treefiles.specs.Steps.{Moved, Begun, Reads, itemRead, listsIn, countsOf}
 use Rattle.treefiles.specs.declared.item.Item.{Item as CodeItem}
-use Rattle.treefiles.specs.declared.loaded.Loaded.{Loaded}
 use Rattle.treefiles.specs.declared.loader.Loader.{Loader}
-use Rattle.treefiles.specs.declared.stage.Stage.{Stage}
 use Rattle.treefiles.specs.declared.stage.Stage.the-variants.{Opening}
 use Rattle.treefiles.proofs.Closing.{Whole, restOf, read-whole, passed}
 use Rattle.treefiles.proofs.Gathering.{listsAmong, entryOf, entriesAmong, lists-among-append, entries-among-append, length-entry-of, lists-gathered, told}

@@ -1,26 +1,22 @@
 -- A file is read exactly where it is the file of a tree. Assumes nothing.
 use mathlib.Core.Path.{_≡_, refl, sym, ap, ap₂, subst, _∙_}
 use mathlib.Core.Bool.{Bool, true, false, cond}
-use mathlib.Core.List.{List, [], _∷_, _++_, append-nil, append-assoc}
-use Prim.Native.Nat.{ℕ, zero, suc, _+_, _*_, _/_, _%_, _<_, _≤_}
+use mathlib.Core.List.{List, [], _∷_, _++_, append-nil}
+use Prim.Native.Nat.{ℕ, zero, suc, _+_, _*_, _/_, _%_, _≤_}
 use native.Mathlib.Omega.{arith}
-use lib.Dec.{eqb, leb}
-use lib.ListN.{length, take, drop, length-append}
+use lib.Dec.{eqb}
+use lib.ListN.{length, drop, length-append}
 use lib.Seq.{take-append-seam, drop-append-seam}
 use Rattle.std.proofs.shelf.Tests.{eq-eqb, le-leb, eqb-true}
 use Rattle.std.proofs.shelf.Ways.{tells}
-use Rattle.std.specs.declared.option.Option.{Option}
 use Rattle.std.specs.declared.option.Option.the-variants.{Some, None}
-use Rattle.std.specs.declared.result.Result.{Result}
-use Rattle.std.specs.declared.result.Result.the-variants.{Ok, Err}
-use Rattle.faults.specs.Refusals.{fault}
-use Rattle.faults.specs.declared.Fault.{Fault}
-use Rattle.terms.specs.Keys.{keyFault, zeroFault, firstZero}
-use Rattle.treefiles.specs.Format.{TermEntry, TermList, allEntries, field, listField, entryField, closingField, fourBytes, listFields, written, opening, IsTree, RootFirst, Keyed}
-use Rattle.treefiles.specs.Reader.{Item, aList, anEntry, theEnd, tagOf, firstField, number, entryIn, said, ended, nextItem, stageAfter, entriesIn, sizeOf, entries, someItem, saidOf, after, follow, items, gathered, treeOf, begins, fileItems, treeRead, read}
+use Rattle.std.specs.declared.result.Result.the-variants.{Ok}
+use Rattle.terms.specs.Keys.{keyFault}
+use Rattle.treefiles.specs.Format.{TermEntry, TermList, allEntries, field, closingField, fourBytes, listFields, written, opening, IsTree, Keyed}
+use Rattle.treefiles.specs.Reader.{Item, aList, anEntry, theEnd, firstField, number, nextItem, stageAfter, entriesIn, sizeOf, entries, someItem, saidOf, after, follow, items, gathered, treeOf, begins, treeRead, read}
 use Rattle.treefiles.specs.declared.stage.Stage.{Stage}
 use Rattle.treefiles.specs.declared.stage.Stage.the-variants.{Opening, List as ListRead, Entry as EntryRead, Closing}
-use Rattle.treefiles.proofs.Closing.{Phase, first, within, behind, phaseOf, phaseAfter, phase-after, Accepts, Closes, itemField, itemFields, Bytes, bytes-drop, number-four, restOf}
+use Rattle.treefiles.proofs.Closing.{Phase, first, within, phaseOf, phaseAfter, phase-after, Accepts, Closes, itemField, itemFields, Bytes, bytes-drop, number-four, restOf}
 use Rattle.treefiles.specs.Steps.{sized}
 use Rattle.treefiles.proofs.Reading.{entry-said}
 use Rattle.treefiles.proofs.Gathering.{told}

@@ -1,6 +1,6 @@
 // Checking and loading tree files.
 ghost use mathlib.Core.Path.{_≡_};
-ghost use Prim.Native.Nat.{_+_, _^_, _<_, _≤_};
+ghost use Prim.Native.Nat.{_+_, _^_, _<_};
 ghost use lib.ListN.{length, getD, set};
 ghost use Rattle.treefiles.specs.Filling.{Room, CanStore, Stores, row, oneMore};
 ghost use Rattle.treefiles.specs.Loading.{checked, Holds, Loads};

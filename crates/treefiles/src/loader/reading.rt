@@ -1,7 +1,7 @@
 // Reading a tree file field by field.
 ghost use mathlib.Core.Path.{_≡_};
 ghost use Prim.Native.Nat.{_+_, _≤_};
-ghost use lib.ListN.{length, drop};
+ghost use lib.ListN.{length};
 ghost use Rattle.treefiles.specs.Steps.{TakesField, Reads, Opens, Begun, countsOf};
 use crate::field::BEFORE_BODY;
 use crate::field::Field;

@@ -2,7 +2,7 @@ use mathlib.Core.Path.{refl}
 use Prim.Native.Nat.{ℕ, _<_}
 use native.Mathlib.Omega.{arith}
 use borrow.Author.Needs.{needs}
-use lib.ListN.{length, getD}
+use lib.ListN.{length}
 use Rattle.terms.proofs.Texts.{first-zero, no-zero, zeros, copied, no-fault}
 use Rattle.terms.proofs.key.Term.new.Needs as need
 
