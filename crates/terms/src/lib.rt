@@ -8,6 +8,7 @@ mod tests {
     use crate::key::order::TermOrder;
     use crate::marks::Marks;
     use crate::marks::MarksPayload;
+    use faults::FaultDebug;
     use orders::KeyOrder;
     use orders::Payload;
     use std::cmp::Ordering;
