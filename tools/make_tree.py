@@ -5,7 +5,8 @@ Usage: make_tree.py SOURCE TARGET [BYTES]
 
 SOURCE holds a line "list PARENT" for each list and behind it a line for each of its entries: the term, and after a
 bar its marks, as "withdrawn", "ban", "preferred" or the number of a bit. Empty lines and lines that begin with "#"
-are passed over. In a term \\xNN stands for the byte NN. With BYTES only that many bytes are written, which gives a damaged file.
+are passed over. In a term \\xNN stands for the byte NN. With BYTES only that many bytes are written, which gives a
+damaged file.
 """
 import re
 import sys
@@ -20,7 +21,7 @@ def field(tag, body):
 def marks(words):
     bits = 0
     for word in words.split():
-        bits |= 1 << BITS.get(word, int(word) if word.isdigit() else 0)
+        bits |= 1 << (BITS[word] if word in BITS else int(word))
     return bits.to_bytes(4, "big")
 
 
