@@ -2,6 +2,8 @@
 ghost use mathlib.Core.Path.{_≡_};
 ghost use Rattle.faults.specs.Refusals.{numberOf, layerOf, fault, withSecond};
 
+pub mod sentences;
+
 // Why a call was refused. The numbers are those that users of the product know.
 #[derive(Clone, Copy, PartialEq, Eq, Debug)]
 pub enum Reason {

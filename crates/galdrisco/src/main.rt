@@ -1,0 +1,19 @@
+// The command line: checks tree files and shows what they hold.
+use std::io;
+
+mod commands;
+mod depths;
+mod text;
+mod tree;
+
+// The status is 0 where all that was asked for was granted, otherwise 1.
+fn main(rt: LibcRuntime) -> io::Result<()> {
+    match commands::run(&rt) {
+        Ok(true) => Ok(()),
+        Ok(false) => Err(io::Error::from(io::ErrorKind::InvalidData)),
+        Err(error) => {
+            eprintln!(rt, "galdrisco: {error}")?;
+            Err(error)
+        }
+    }
+}
