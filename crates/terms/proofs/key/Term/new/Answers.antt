@@ -19,6 +19,6 @@ returns c =
     let text = c .args .text .now in
     let inv = c .loop-i .inv in
     let within : (k : ℕ) → k < length text → k < c .loop-i .i = λ k h. omega arith in (
-      no-fault text (c .if-len-lt1 .left) (c .if-len-gt-LONGEST .left) (no-zero text (λ k h. inv .2 k (within k h))),
+      no-fault text (omega arith) (omega arith) (no-zero text (λ k h. inv .2 k (within k h))),
       copied (c .loop-i .bytes) text (omega arith) (λ k h. inv .1 k (within k h)),
     )
