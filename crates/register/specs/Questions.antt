@@ -2,11 +2,11 @@
 use mathlib.Core.Bool.{Bool, true, false, cond, _&&_}
 use mathlib.Core.List.{List, [], _∷_}
 use Prim.Native.Nat.{ℕ, suc, _+_, _-_}
-use lib.Dec.{leb, ltb}
+use lib.Dec.{eqb, leb, ltb}
 use lib.ListN.{length, take}
 use Rattle.std.specs.Iters.{counting}
 use Rattle.std.specs.Options.{mapped}
-use Rattle.std.specs.Orderings.{isLt}
+use Rattle.std.specs.Orderings.{isLe, isLt}
 use Rattle.std.specs.declared.cmp.Ordering.{Ordering}
 use Rattle.std.specs.declared.option.Option.{Option}
 use Rattle.std.specs.declared.option.Option.the-variants.{Some, None}
@@ -14,7 +14,8 @@ use Rattle.std.specs.declared.result.Result.{Result}
 use Rattle.std.specs.declared.result.Result.the-variants.{Ok, Err}
 use Rattle.faults.specs.Refusals.{fault}
 use Rattle.faults.specs.declared.Fault.{Fault}
-use Rattle.faults.specs.declared.Reason.the-variants.{ListCount, ParentNotSmaller, TooDeep, TooManyChildren, TooManyEntries, KeyOutOfOrder, IndexMemoryShort, NoSuchList, NoSuchPlace}
+use Rattle.faults.specs.declared.Reason.the-variants.{ListCount, ParentNotSmaller, TooDeep, TooManyChildren, TooManyEntries, KeyOutOfOrder, IndexMemoryShort, NoSuchList, NoSuchPlace, NotSieved, SlotLimits, KeyLimits}
+use Rattle.shelves.specs.Slots.{sieveLists, slotCount, sieveParent}
 use Rattle.cascade.specs.Trees.{KeyTree, parentOf, keysAt, ordinal, depthOf, allKeys, allAugmented}
 use Rattle.register.specs.Limits.{mostLists, mostEdges, mostChildren, mostEntries}
 
@@ -102,3 +103,21 @@ listFault t v = ask (ltb v (length t)) (fault NoSuchList v 0)
 -- does the list exist, then does the place
 abbrev pub placeFault : {K : Type 0} → KeyTree K → (v p : ℕ) → Option Fault
 placeFault t v p = orElse (listFault t v) (ask (ltb p (length (keysAt t v))) (fault NoSuchPlace v p))
+
+-- does a test hold of each number
+abbrev pub holdsOfAll : (ℕ → Bool) → List ℕ → Bool
+holdsOfAll f [] = true
+holdsOfAll f (v ∷ vs) = let rest = holdsOfAll f vs in f v && rest
+
+module _ {K : Type 0} where
+  -- are there 127 lists with the sieve's parents
+  abbrev pub sieveShaped : KeyTree K → Bool
+  sieveShaped t = eqb (length t) sieveLists && holdsOfAll (λ v. eqb (parentOf t v) (sieveParent v)) (counting 1 (sieveLists - 1))
+
+  -- the questions before a range over the slots a to b and the keys low to high: are the lists the sieve's, are the slots
+  -- in order and at most 63, is low not above high
+  abbrev pub rangeFault : (K → K → Ordering) → KeyTree K → (a b : ℕ) (low high : K) → Option Fault
+  rangeFault order t a b low high =
+      orElse (ask (sieveShaped t) (fault NotSieved 0 0))
+      (orElse (ask (leb a b && ltb b slotCount) (fault SlotLimits a b))
+      (ask (isLe (order low high)) (fault KeyLimits 0 0)))

@@ -13,10 +13,11 @@ use Rattle.orders.specs.declared.side.Side.{Side}
 use Rattle.orders.specs.declared.side.Side.the-variants.{Low, High}
 use Rattle.orders.specs.Places.{place}
 use Rattle.shelves.specs.Meaning.{Branch, entriesOf, payloadsOf}
+use Rattle.cascade.specs.SlotTree.{countedSpans}
 use Rattle.cascade.specs.Trees.{keysAt, path}
 use Rattle.layout.specs.KeyTrees.{keyTree}
-use Rattle.register.specs.Limits.{mostStops}
-use Rattle.register.specs.Questions.{unless, listFault}
+use Rattle.register.specs.Limits.{mostStops, mostSpans}
+use Rattle.register.specs.Questions.{unless, listFault, rangeFault}
 use Rattle.register.specs.Memory.{joinedLists}
 use Rattle.register.specs.Answers.{stop, span, filledUp, Stops, Spans}
 use Rattle.register.specs.declared.answers.Span.{Span}
@@ -81,3 +82,11 @@ module _ {K P : Type 0} (order : K → K → Ordering) (neutral : P) (joined : P
 
   abbrev pub offerAnswer : Register K P → (w : ℕ) → K → Result (Spans P) Fault
   offerAnswer reg w q = unless (listFault (keyTree reg) w) (offered reg w q)
+
+  -- a range over the slots a to b and the keys low to high: in each chosen list of the sieve's tree the entries from the
+  -- low-side place of low to before the high-side place of high
+  abbrev pub ranged : Register K P → (a b : ℕ) (low high : K) → Spans P
+  ranged reg a b low high = summed mostSpans reg (map (λ s. span (s .0) (s .1) (s .2)) (countedSpans order (keyTree reg) a b low high))
+
+  abbrev pub rangeAnswer : Register K P → (a b : ℕ) (low high : K) → Result (Spans P) Fault
+  rangeAnswer reg a b low high = unless (rangeFault order (keyTree reg) a b low high) (ranged reg a b low high)
