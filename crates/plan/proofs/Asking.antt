@@ -9,9 +9,11 @@ use Rattle.std.specs.Iters.{counting}
 use Rattle.std.specs.Options.{mapped}
 use Rattle.std.specs.declared.option.Option.{Option}
 use Rattle.std.specs.declared.option.Option.the-variants.{Some, None}
+use Rattle.std.specs.declared.result.Result.{Result}
+use Rattle.std.specs.declared.result.Result.the-variants.{Ok, Err}
 use Rattle.std.proofs.shelf.Tests.{cases-eq}
 use Rattle.faults.specs.declared.Fault.{Fault}
-use Rattle.register.specs.Questions.{ask, orElse, askEach}
+use Rattle.register.specs.Questions.{ask, orElse, askEach, unless}
 
 pub not-none : {X : Type 0} (x : X) → Some x ≡ None → ⊥
 not-none x e = let z : _≡_ {A = ℕ} 0 1 = cc in omega arith
@@ -74,3 +76,18 @@ module _ (q : ℕ → Option Fault) (v n : ℕ) where
 
 pub ask-all : (q : ℕ → Option Fault) (n : ℕ) → askFrom q 0 n ≡ askEach q (counting 0 n)
 ask-all q n = let e : n - 0 ≡ n = omega arith in ap (λ m. askEach q (counting 0 m)) e
+
+-- a question's answer as a call gives it, and back
+pub grant : {X : Type 0} (o : Option Fault) (x : X) → o ≡ None → Ok x ≡ unless o x
+grant o x e = sym (ap (λ a. unless a x) e)
+
+pub refuse : {X : Type 0} (o : Option Fault) (f : Fault) (x : X) → o ≡ Some f → Err f ≡ unless o x
+refuse o f x e = sym (ap (λ a. unless a x) e)
+
+pub granted-none : {X : Type 0} (o : Option Fault) (x y : X) → Ok x ≡ unless o y → o ≡ None
+granted-none None x y e = refl
+granted-none (Some f) x y e = let z : _≡_ {A = ℕ} 0 1 = cc in absurd (omega arith)
+
+pub refused-some : {X : Type 0} (o : Option Fault) (f : Fault) (y : X) → Err f ≡ unless o y → o ≡ Some f
+refused-some None f y e = let z : _≡_ {A = ℕ} 0 1 = cc in absurd (omega arith)
+refused-some (Some h) f y e = cc
