@@ -78,16 +78,22 @@ pub ask-all : (q : ℕ → Option Fault) (n : ℕ) → askFrom q 0 n ≡ askEach
 ask-all q n = let e : n - 0 ≡ n = omega arith in ap (λ m. askEach q (counting 0 m)) e
 
 -- a question's answer as a call gives it, and back
-pub grant : {X : Type 0} (o : Option Fault) (x : X) → o ≡ None → Ok x ≡ unless o x
-grant o x e = sym (ap (λ a. unless a x) e)
+abbrev pub Grants : Option Fault → Type 0
+Grants o = _≡_ {A = Result Unit Fault} (Ok tt) (unless o tt)
 
-pub refuse : {X : Type 0} (o : Option Fault) (f : Fault) (x : X) → o ≡ Some f → Err f ≡ unless o x
-refuse o f x e = sym (ap (λ a. unless a x) e)
+abbrev pub Refuses : Option Fault → Fault → Type 0
+Refuses o f = _≡_ {A = Result Unit Fault} (Err f) (unless o tt)
 
-pub granted-none : {X : Type 0} (o : Option Fault) (x y : X) → Ok x ≡ unless o y → o ≡ None
-granted-none None x y e = refl
-granted-none (Some f) x y e = let z : _≡_ {A = ℕ} 0 1 = cc in absurd (omega arith)
+pub grant : (o : Option Fault) → o ≡ None → Grants o
+grant o e = sym (ap (λ a. unless a tt) e)
 
-pub refused-some : {X : Type 0} (o : Option Fault) (f : Fault) (y : X) → Err f ≡ unless o y → o ≡ Some f
-refused-some None f y e = let z : _≡_ {A = ℕ} 0 1 = cc in absurd (omega arith)
-refused-some (Some h) f y e = cc
+pub refuse : (o : Option Fault) (f : Fault) → o ≡ Some f → Refuses o f
+refuse o f e = sym (ap (λ a. unless a tt) e)
+
+pub granted-none : (o : Option Fault) → Grants o → o ≡ None
+granted-none None e = refl
+granted-none (Some f) e = let z : _≡_ {A = ℕ} 0 1 = cc in absurd (omega arith)
+
+pub refused-some : (o : Option Fault) (f : Fault) → Refuses o f → o ≡ Some f
+refused-some None f e = let z : _≡_ {A = ℕ} 0 1 = cc in absurd (omega arith)
+refused-some (Some h) f e = cc

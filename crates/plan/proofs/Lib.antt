@@ -7,4 +7,5 @@ mod Giving
 mod Descents
 mod Reading
 mod Linking
+mod Measuring
 mod Planning

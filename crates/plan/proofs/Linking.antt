@@ -51,7 +51,7 @@ module _ {K : Type 0} (t : KeyTree K) where
   children-asked os h =
       each-same (λ v. ask (ltb (ordinal t v) mostChildren) (fault TooManyChildren v 0)) (λ v. ask (leb (cell os v) 3) (fault TooManyChildren v 0)) 0 (length t)
       (λ v l m. let e : ltb (ordinal t v) 4 ≡ leb (ordinal t v) 3 = grind (arith, tells) in
-        ap (λ b. ask b (fault TooManyChildren v 0)) e ∙ ap (λ k. ask (leb k 3) (fault TooManyChildren v 0)) (sym (h v (omega arith))))
+      ap (λ b. ask b (fault TooManyChildren v 0)) e ∙ ap (λ k. ask (leb k 3) (fault TooManyChildren v 0)) (sym (h v (omega arith))))
 
   pub entries-asked : (cs : List ℕ) → length t ≤ length cs → Holds (length t) (λ v. length (keysAt t v)) cs → entryFault t ≡ entriesAsked (length t) cs
   entries-asked cs l h =
@@ -99,4 +99,3 @@ module _ {K : Type 0} (t : KeyTree K) where
             let e = lengths K order t smaller u l in
             let f = long u l in
             omega arith
-

@@ -13,38 +13,41 @@ use Rattle.cascade.proofs.Augmenting.{length-augmentedFrom}
 use Rattle.cascade.proofs.Spacing.{space}
 use Rattle.register.specs.Limits.{mostLists, mostEntries}
 use Rattle.register.specs.Shape.{Shaped}
-use Rattle.plan.specs.Columns.{cell, Holds, Smaller, lengthBy, runBy, noRun, Numbers}
+use Rattle.plan.specs.Columns.{cell, Holds, Filled, Smaller, lengthBy, runBy, noRun, Numbers}
 use Rattle.plan.specs.Table.{runAt, Tabled}
 use Rattle.plan.specs.declared.columns.Columns.{Columns}
 use Rattle.plan.specs.declared.table.ListTable.{ListTable}
 use Rattle.plan.proofs.Linking.{sums-same, smaller-column, lengths-hold}
 
 module _ {K : Type 0} (t : KeyTree K) (columns : Columns) (numbers : Numbers t columns) (shaped : Shaped t) where
-  few : columns .len ≤ mostLists
+  pub few : columns .len ≤ mostLists
   few = let e = numbers .lists in let l = shaped .lists in omega arith
 
   pub smaller-parents : Smaller (columns .len) (columns .parents)
-  smaller-parents v z h = let e = numbers .lists in smaller-column t (columns .parents) (numbers .parents) (shaped .smaller) v z (omega arith)
+  smaller-parents v z h = let e = numbers .lists in smaller-column t (columns .parents) (numbers .parents .each) (shaped .smaller) v z (omega arith)
 
-  pub counts-within : columns .len ≤ length (columns .counts) → sum (take (columns .len) (columns .counts)) ≤ mostEntries
-  counts-within l =
+  pub counts-within : sum (take (columns .len) (columns .counts)) ≤ mostEntries
+  counts-within =
       let e = numbers .lists in
-      let s = sums-same (λ (b : ℕ × List K). length (b .1)) t (0, []) (columns .counts) (omega arith) (numbers .counts) (columns .len) (omega arith) in
+      let f = few in
+      let z = numbers .counts .size in
+      let s = sums-same (λ (b : ℕ × List K). length (b .1)) t (0, []) (columns .counts) (omega arith) (numbers .counts .each) (columns .len) (omega arith) in
       let a : allKeys (take (columns .len) t) ≡ allKeys t = ap allKeys (take-all (columns .len) t (omega arith)) in
       let n = shaped .entries in
       omega arith
 
-  module _ (order : K → K → Ordering) (ls : List ℕ) (size : length ls ≡ mostLists) (long : Holds (columns .len) (lengthBy (columns .len) (columns .parents) (columns .counts) ls) ls) where
+  module _ (order : K → K → Ordering) (ls : List ℕ) (long : Filled (columns .len) (lengthBy (columns .len) (columns .parents) (columns .counts) ls) ls) where
     pub lengths-are : Holds (length t) (λ v. length (augmented order t v)) ls
     lengths-are =
         let P : ℕ → Type 0 = λ n. Holds n (lengthBy n (columns .parents) (columns .counts) ls) ls in
-        lengths-hold t (columns .parents) (numbers .parents) order (shaped .smaller) (columns .counts) ls (numbers .counts) (subst P (numbers .lists) long)
+        lengths-hold t (columns .parents) (numbers .parents .each) order (shaped .smaller) (columns .counts) ls (numbers .counts .each) (subst P (numbers .lists) (long .each))
 
     starts : (v : ℕ) → v ≤ length t → sum (take v ls) ≡ sumBy length (take v (augmentedLists order t))
     starts v h =
         let g : length (augmentedLists order t) ≡ length t = length-augmentedFrom order 0 t in
         let l = few in
         let e = numbers .lists in
+        let z = long .size in
         sums-same length (augmentedLists order t) [] ls (omega arith) (λ u k. lengths-are u (omega arith)) v (omega arith)
 
     pub lengths-within : sum (take (columns .len) ls) < 2 ^ 64
@@ -57,21 +60,22 @@ module _ {K : Type 0} (t : KeyTree K) (columns : Columns) (numbers : Numbers t c
         let m = space K order t in
         omega arith
 
-    pub tabled : columns .len ≤ length (columns .counts) → (table : ListTable) → table .len ≡ columns .len → length (table .runs) ≡ mostLists
+    pub tabled : (table : ListTable) → table .len ≡ columns .len → length (table .runs) ≡ mostLists
         → ((v : ℕ) → v < table .len → getD (table .runs) v noRun ≡ runBy columns ls v) → Tabled t (augmentedLists order t) table
-    tabled lc table len lr runs =
+    tabled table len lr runs =
         let gs = augmentedLists order t in
         let e = numbers .lists in
         let l = few in
+        let z = numbers .counts .size in
         let run : (v : ℕ) → v < length t → runBy columns ls v ≡ runAt t gs v =
         λ v h.
-          let a = numbers .parents v h in
-          let b = numbers .ordinals v h in
-          let c = starts v (omega arith) in
-          let d = lengths-are v h in
-          let f = sums-same (λ (x : ℕ × List K). length (x .1)) t (0, []) (columns .counts) (omega arith) (numbers .counts) v (omega arith) in
-          let k = numbers .counts v h in
-          cc in
+        let a = numbers .parents .each v h in
+        let b = numbers .ordinals .each v h in
+        let c = starts v (omega arith) in
+        let d = lengths-are v h in
+        let f = sums-same (λ (x : ℕ × List K). length (x .1)) t (0, []) (columns .counts) (omega arith) (numbers .counts .each) v (omega arith) in
+        let k = numbers .counts .each v h in
+        cc in
         let m : length (take (table .len) (table .runs)) ≡ length t = length-take-le (table .len) (table .runs) (omega arith) ∙ len ∙ e in
         record {
           lists = len ∙ e;

@@ -1,5 +1,6 @@
 -- Columns: a number for each list. The questions about lists, and what is worked out of their parents and counts, in columns.
 use mathlib.Core.Path.{_≡_}
+use mathlib.Core.Bool.{_&&_}
 use mathlib.Core.List.{List}
 use Prim.Native.Nat.{ℕ, suc, _+_, _-_, _/_, _<_, _≤_}
 use lib.Dec.{leb, ltb, eqb}
@@ -13,7 +14,7 @@ use Rattle.std.specs.declared.result.Result.the-variants.{Ok, Err}
 use Rattle.faults.specs.Refusals.{fault}
 use Rattle.faults.specs.declared.Fault.{Fault}
 use Rattle.faults.specs.declared.Reason.{Reason}
-use Rattle.faults.specs.declared.Reason.the-variants.{ParentNotSmaller, TooManyEntries}
+use Rattle.faults.specs.declared.Reason.the-variants.{ListCount, ParentNotSmaller, TooManyEntries}
 use Rattle.orders.specs.Places.{count}
 use Rattle.cascade.specs.Trees.{KeyTree, parentOf, keysAt, ordinal}
 use Rattle.register.specs.Limits.{mostLists, mostEntries}
@@ -29,9 +30,18 @@ cell column v = getD column v 0
 abbrev pub Holds : (n : ℕ) → (ℕ → ℕ) → List ℕ → Type 0
 Holds n f column = (v : ℕ) → v < n → cell column v ≡ f v
 
+-- a column with f v for each list v below n
+pub record Filled (n : ℕ) (f : ℕ → ℕ) (column : List ℕ) : Type 0 where
+  pub size : length column ≡ mostLists
+  pub each : Holds n f column
+
 -- each of n lists but the root has a smaller number in the column
 abbrev pub Smaller : (n : ℕ) → List ℕ → Type 0
 Smaller n parents = (v : ℕ) → 0 < v → v < n → cell parents v < v
+
+-- are there 1 to 128 lists
+abbrev pub countAsked : (n : ℕ) → Option Fault
+countAsked n = ask (leb 1 n && leb n mostLists) (fault ListCount n 0)
 
 -- for each list from 1 up, is its parent smaller
 abbrev pub parentsAsked : (n : ℕ) → List ℕ → Option Fault
@@ -79,9 +89,9 @@ shapeFault t = orElse (countFault t) (orElse (parentFault t) (orElse (depthFault
 -- the columns of lists have their numbers
 pub record Numbers {K : Type 0} (t : KeyTree K) (columns : Columns) : Type 0 where
   pub lists : columns .len ≡ length t
-  pub parents : Holds (length t) (parentOf t) (columns .parents)
-  pub ordinals : Holds (length t) (ordinal t) (columns .ordinals)
-  pub counts : Holds (length t) (λ v. length (keysAt t v)) (columns .counts)
+  pub parents : Filled (length t) (parentOf t) (columns .parents)
+  pub ordinals : Filled (length t) (ordinal t) (columns .ordinals)
+  pub counts : Filled (length t) (λ v. length (keysAt t v)) (columns .counts)
 
 -- what is measured of lists: their numbers, where none of these questions gets a "no"; otherwise the refusal
 abbrev pub Measures : {K : Type 0} → KeyTree K → Result Columns Fault → Type 0

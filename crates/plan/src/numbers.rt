@@ -6,14 +6,14 @@ ghost use Rattle.std.specs.shelf.Lists.{sum};
 ghost use Rattle.cascade.specs.Trees.{parentOf, keysAt};
 ghost use Rattle.layout.specs.KeyTrees.{keyTree};
 ghost use Rattle.register.specs.Limits.{mostLists, mostEntries};
-ghost use Rattle.plan.specs.Columns.{Holds, Smaller, Depths, childrenBefore, lengthBy, cell};
+ghost use Rattle.plan.specs.Columns.{Filled, Smaller, Depths, childrenBefore, lengthBy, cell};
 use crate::columns::Column;
 use register::limits::MOST_LISTS;
 use shelves::Shelf;
 
 // The parent of each list.
 pub fn parents_of<S: Shelf>(shelf: &S) -> Column
-    ensures { λ r. ⌜ Holds mostLists (parentOf (keyTree (meaning (now (shelf .entry))))) r ⌝ }
+    ensures { λ r. ⌜ Filled mostLists (parentOf (keyTree (meaning (now (shelf .entry))))) r ⌝ }
 {
     let mut parents = [0; MOST_LISTS];
     for v in 0..MOST_LISTS {
@@ -24,7 +24,7 @@ pub fn parents_of<S: Shelf>(shelf: &S) -> Column
 
 // How many entries each list has.
 pub fn counts_of<S: Shelf>(shelf: &S) -> Column
-    ensures { λ r. ⌜ Holds mostLists (λ v. length (keysAt (keyTree (meaning (now (shelf .entry)))) v)) r ⌝ }
+    ensures { λ r. ⌜ Filled mostLists (λ v. length (keysAt (keyTree (meaning (now (shelf .entry)))) v)) r ⌝ }
 {
     let mut counts = [0; MOST_LISTS];
     for v in 0..MOST_LISTS {
@@ -50,7 +50,7 @@ pub fn depths_of(len: usize, parents: &Column) -> Column
 pub fn ordinals_of(len: usize, parents: &Column) -> Column
     requires { ⌜ len ≤ mostLists ⌝ }
     requires { ⌜ Smaller len (now parents) ⌝ }
-    ensures { λ r. ⌜ Holds len (λ v. childrenBefore (now (parents .entry)) v (cell (now (parents .entry)) v)) r ⌝ }
+    ensures { λ r. ⌜ Filled len (λ v. childrenBefore (now (parents .entry)) v (cell (now (parents .entry)) v)) r ⌝ }
 {
     let mut children = [0; MOST_LISTS];
     let mut ordinals = [0; MOST_LISTS];
@@ -67,7 +67,7 @@ pub fn lengths_of(len: usize, parents: &Column, counts: &Column) -> Column
     requires { ⌜ len ≤ mostLists ⌝ }
     requires { ⌜ Smaller len (now parents) ⌝ }
     requires { ⌜ sum (take len (now counts)) ≤ mostEntries ⌝ }
-    ensures { λ r. ⌜ Holds len (lengthBy len (now (parents .entry)) (now (counts .entry)) r) r ⌝ }
+    ensures { λ r. ⌜ Filled len (lengthBy len (now (parents .entry)) (now (counts .entry)) r) r ⌝ }
 {
     let mut lengths = *counts;
     for v in (1..len).rev() {

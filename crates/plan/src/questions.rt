@@ -1,17 +1,15 @@
 // The questions about the lists of a shelf. The first "no" is the refusal.
 ghost use mathlib.Core.Path.{_≡_};
-ghost use mathlib.Core.Bool.{_&&_};
-ghost use Prim.Native.Nat.{_<_, _≤_};
-ghost use lib.Dec.{leb};
+ghost use Prim.Native.Nat.{_≤_};
 ghost use lib.ListN.{length};
 ghost use Rattle.std.specs.Options.{mapped};
 ghost use Rattle.faults.specs.Refusals.{fault};
-ghost use Rattle.faults.specs.declared.Reason.the-variants.{ListCount, KeyOutOfOrder};
+ghost use Rattle.faults.specs.declared.Reason.the-variants.{KeyOutOfOrder};
 ghost use Rattle.cascade.specs.Trees.{keysAt};
 ghost use Rattle.layout.specs.KeyTrees.{keyTree};
 ghost use Rattle.register.specs.Limits.{mostLists};
-ghost use Rattle.register.specs.Questions.{ask, unless, descent, orderFault};
-ghost use Rattle.plan.specs.Columns.{parentsAsked, mostAsked, entriesAsked};
+ghost use Rattle.register.specs.Questions.{unless, descent, orderFault};
+ghost use Rattle.plan.specs.Columns.{countAsked, parentsAsked, mostAsked, entriesAsked};
 use crate::columns::Column;
 use faults::Fault;
 use faults::Reason;
@@ -22,7 +20,7 @@ use shelves::Shelf;
 
 // Is the number of lists 1 to 128?
 pub fn ask_count(lists: usize) -> Result<(), Fault>
-    ensures { λ r. ⌜ r ≡ unless (ask (leb 1 lists && leb lists mostLists) (fault ListCount lists 0)) tt ⌝ }
+    ensures { λ r. ⌜ r ≡ unless (countAsked lists) tt ⌝ }
 {
     if 1 <= lists && lists <= MOST_LISTS {
         Ok(())

@@ -28,8 +28,7 @@ loop-v-again c =
     let ls = c .loop-v .lengths in
     let e : v ≡ v - 1 + 1 = omega arith in
     let w : sum (take (v - 1 + 1) ls) ≤ mostEntries = subst (λ k. sum (take k ls) ≤ mostEntries) e (c .loop-v .inv .2) in
-    let h : Holds n (lengthFrom (v - 1 + 1) n ps cs ls) ls = subst (λ k. Holds n (lengthFrom k n ps cs ls) ls) e (c .loop-v .inv .1) in
-    (
+    let h : Holds n (lengthFrom (v - 1 + 1) n ps cs ls) ls = subst (λ k. Holds n (lengthFrom k n ps cs ls) ls) e (c .loop-v .inv .1) in (
       given-size n ps cs ls (v - 1) (omega arith) (omega arith) (omega arith) (c .pre .1) (c .loop-v .inv .0) w,
       given-holds n ps cs ls (v - 1) (omega arith) (omega arith) (omega arith) (c .pre .1) (c .loop-v .inv .0) w h,
       given-within n ps cs ls (v - 1) (omega arith) (omega arith) (omega arith) (c .pre .1) (c .loop-v .inv .0) w,
@@ -37,4 +36,7 @@ loop-v-again c =
     )
 
 pub returns : need.returns
-returns c = all-gave (c .args .len) (c .args .parents .now) (c .args .counts .now) (c .loop-v .lengths) (c .loop-v .v) (λ h. let l = c .loop-v .inv .3 h in omega arith) (c .loop-v .inv .1)
+returns c = record {
+  size = c .loop-v .inv .0;
+  each = all-gave (c .args .len) (c .args .parents .now) (c .args .counts .now) (c .loop-v .lengths) (c .loop-v .v) (λ h. let l = c .loop-v .inv .3 h in omega arith) (c .loop-v .inv .1);
+}

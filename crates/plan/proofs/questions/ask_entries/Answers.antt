@@ -19,11 +19,12 @@ loop-v-again c =
     let cs = c .args .counts .now in
     let v = c .loop-v .v in
     let m = sumBy-more (λ x. x) cs v 0 (omega arith) in
-    let s : sum (take (suc v) cs) ≡ sum (take (v + 1) cs) = let e : suc v ≡ v + 1 = omega arith in ap (λ (n : ℕ). sum (take n cs)) e in
-    (omega arith,
-     omega arith,
-     ask-more (λ u. ask (leb (sum (take (suc u) cs)) mostEntries) (fault TooManyEntries u 0)) v (c .args .len) (omega arith)
-     (ap (λ b. ask b (fault TooManyEntries v 0)) (le-leb (sum (take (suc v) cs)) mostEntries (omega arith))) ∙ c .loop-v .inv .2)
+    let s : sum (take (suc v) cs) ≡ sum (take (v + 1) cs) = let e : suc v ≡ v + 1 = omega arith in ap (λ (n : ℕ). sum (take n cs)) e in (
+      omega arith,
+      omega arith,
+      ask-more (λ u. ask (leb (sum (take (suc u) cs)) mostEntries) (fault TooManyEntries u 0)) v (c .args .len) (omega arith)
+          (ap (λ b. ask b (fault TooManyEntries v 0)) (le-leb (sum (take (suc v) cs)) mostEntries (omega arith))) ∙ c .loop-v .inv .2,
+    )
 
 pub returns-then-count-entries : need.returns-then-count-entries
 returns-then-count-entries c =
@@ -33,6 +34,6 @@ returns-then-count-entries c =
     let m = sumBy-more (λ x. x) cs v 0 (omega arith) in
     let s : sum (take (suc v) cs) ≡ sum (take (v + 1) cs) = let e : suc v ≡ v + 1 = omega arith in ap (λ (n : ℕ). sum (take n cs)) e in
     simp (c .new .ensures)
-    (refuse (entriesAsked (c .args .len) cs) f tt
+    (refuse (entriesAsked (c .args .len) cs) f
     (sym (c .loop-v .inv .2)
     ∙ ask-stop (λ u. ask (leb (sum (take (suc u) cs)) mostEntries) (fault TooManyEntries u 0)) v (c .args .len) f (omega arith) (ap (λ b. ask b f) (lt-leb (sum (take (suc v) cs)) mostEntries (omega arith)))))

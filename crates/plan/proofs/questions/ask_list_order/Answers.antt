@@ -24,7 +24,7 @@ returns-in-rest g c =
     let bs = g .S·Shelf .meaning (c .args .shelf .now) in
     let v = c .args .list in
     let o = g .Key·KeyOrder .order in
-    grant (mapped (λ p. fault KeyOutOfOrder v p) (descent o (keysAt (keyTree bs) v))) tt
+    grant (mapped (λ p. fault KeyOutOfOrder v p) (descent o (keysAt (keyTree bs) v)))
     (ap (λ ks. mapped (λ p. fault KeyOutOfOrder v p) (descent o ks)) (no-entry bs v (λ e h. c .in-rest .not-Some e (c .entry .ensures ∙ h))))
 
 pub loop-place-holds : need.loop-place-holds
@@ -46,7 +46,7 @@ returns-then-is-lt g c =
     let lower : isLt (o (e .key) (c .loop-place .before)) ≡ true = sym (c .is-lt .ensures ∙ ap isLt (c .compare .ensures)) ∙ c .if-is-lt .taken in
     let there = entry-read bs v n e (sym (c .entry-in-loop-place .ensures) ∙ c .in-Some-entry .is) in
     simp (c .new .ensures)
-    (refuse (mapped (λ p. fault KeyOutOfOrder v p) (descent o ks)) (fault KeyOutOfOrder v n) tt
+    (refuse (mapped (λ p. fault KeyOutOfOrder v p) (descent o ks)) (fault KeyOutOfOrder v n)
     (ap (mapped (λ p. fault KeyOutOfOrder v p)) (sym (c .loop-place .inv) ∙ from-lower o n (c .loop-place .before) (e .key) ks there lower)))
 
 pub loop-place-again : need.loop-place-again
@@ -78,5 +78,5 @@ returns g c =
     let n = c .loop-place .place in
     let r = count-read bs v in
     let l : length ks ≤ n = omega arith in
-    grant (mapped (λ p. fault KeyOutOfOrder v p) (descent o ks)) tt
+    grant (mapped (λ p. fault KeyOutOfOrder v p) (descent o ks))
     (ap (mapped (λ p. fault KeyOutOfOrder v p)) (sym (c .loop-place .inv) ∙ ap (descentFrom o n (c .loop-place .before)) (drop-all n ks l)))

@@ -21,6 +21,6 @@ returns-then-column-v c =
     let v = c .loop-v .v in
     let f = fault (c .args .reason) v 0 in
     simp (c .new .ensures)
-    (refuse (mostAsked (c .args .reason) (c .args .most) (c .args .len) xs) f tt
+    (refuse (mostAsked (c .args .reason) (c .args .most) (c .args .len) xs) f
     (sym (c .loop-v .inv)
     ∙ ask-stop (λ u. ask (leb (cell xs u) (c .args .most)) (fault (c .args .reason) u 0)) v (c .args .len) f (omega arith) (ap (λ b. ask b f) (lt-leb (cell xs v) (c .args .most) (omega arith)))))

@@ -29,9 +29,9 @@ returns-in-Break-ask-list-order g c =
     let v = c .loop-v .v in
     let f = c .in-Break-ask-list-order .field-0 .0 in
     let p = err-from-errBy (c .from-residual .result) (c .from-residual .ensures .1) in
-    let no = refused-some (mapped (λ p. fault KeyOutOfOrder v p) (descent o (keysAt (keyTree bs) v))) f tt (c .in-Break-ask-list-order .ensures tt) in
+    let no = refused-some (mapped (λ p. fault KeyOutOfOrder v p) (descent o (keysAt (keyTree bs) v))) f (c .in-Break-ask-list-order .ensures tt) in
     p .1 ∙ ap (λ e. Err e) (p .2)
-    ∙ refuse (orderFault o (keyTree bs)) f tt
+    ∙ refuse (orderFault o (keyTree bs)) f
     (sym (c .loop-v .inv) ∙ ask-stop (λ u. mapped (λ p. fault KeyOutOfOrder u p) (descent o (keysAt (keyTree bs) u))) v (c .args .len) f (omega arith) no)
 
 pub loop-v-again : need.loop-v-again
@@ -39,5 +39,5 @@ loop-v-again g c =
     let bs = g .S·Shelf .meaning (c .args .shelf .now) in
     let o = g .Key·KeyOrder .order in
     let v = c .loop-v .v in
-    let ok = granted-none (mapped (λ p. fault KeyOutOfOrder v p) (descent o (keysAt (keyTree bs) v))) tt tt (c .in-Continue-ask-list-order .ensures tt) in
+    let ok = granted-none (mapped (λ p. fault KeyOutOfOrder v p) (descent o (keysAt (keyTree bs) v))) (c .in-Continue-ask-list-order .ensures tt) in
     ask-more (λ u. mapped (λ p. fault KeyOutOfOrder u p) (descent o (keysAt (keyTree bs) u))) v (c .args .len) (omega arith) ok ∙ c .loop-v .inv

@@ -22,6 +22,6 @@ returns-then-v-parent c =
     let v = c .loop-v .v in
     let f = fault ParentNotSmaller v (cell ps v) in
     simp (c .new .ensures)
-    (refuse (parentsAsked (c .args .len) ps) f tt
+    (refuse (parentsAsked (c .args .len) ps) f
     (sym (c .loop-v .inv)
     ∙ ask-stop (λ u. ask (ltb (cell ps u) u) (fault ParentNotSmaller u (cell ps u))) v (c .args .len) f (omega arith) (ap (λ b. ask b f) (le-ltb (cell ps v) v (omega arith)))))
