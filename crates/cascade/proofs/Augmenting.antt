@@ -75,7 +75,7 @@ module _ {K : Type 0} (order : K → K → Ordering) (t : KeyTree K) (smaller : 
       ∙ ap (map (λ w. samples (keysOf (augmented order t w)))) (sym (children-behind v h ∙ ap (λ n. kept-by (λ w. eqb (parentOf t w) v) (counting n (length t - suc v))) (omega arith))))
 
 module _ {K : Type 0} (t : KeyTree K) where
-  ordinal-count : (w : ℕ) → 0 < w → w < length t → ordinal t w ≡ count (λ u. eqb (parentOf t u) (parentOf t w)) (counting 1 (w - 1))
+  pub ordinal-count : (w : ℕ) → 0 < w → w < length t → ordinal t w ≡ count (λ u. eqb (parentOf t u) (parentOf t w)) (counting 1 (w - 1))
   ordinal-count w z h =
       let l : length (drop 1 t) ≡ length t - 1 = length-drop 1 t in
       count-numbered (0, []) (λ b. b .0) (parentOf t) (λ p. eqb p (parentOf t w)) 1 (w - 1) (drop 1 t) (omega arith)

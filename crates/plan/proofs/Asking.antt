@@ -9,9 +9,11 @@ use Rattle.std.specs.Iters.{counting}
 use Rattle.std.specs.Options.{mapped}
 use Rattle.std.specs.declared.option.Option.{Option}
 use Rattle.std.specs.declared.option.Option.the-variants.{Some, None}
+use Rattle.std.specs.declared.result.Result.{Result}
+use Rattle.std.specs.declared.result.Result.the-variants.{Ok, Err}
 use Rattle.std.proofs.shelf.Tests.{cases-eq}
 use Rattle.faults.specs.declared.Fault.{Fault}
-use Rattle.register.specs.Questions.{ask, orElse, askEach}
+use Rattle.register.specs.Questions.{ask, orElse, askEach, unless}
 
 pub not-none : {X : Type 0} (x : X) → Some x ≡ None → ⊥
 not-none x e = let z : _≡_ {A = ℕ} 0 1 = cc in omega arith
@@ -74,3 +76,24 @@ module _ (q : ℕ → Option Fault) (v n : ℕ) where
 
 pub ask-all : (q : ℕ → Option Fault) (n : ℕ) → askFrom q 0 n ≡ askEach q (counting 0 n)
 ask-all q n = let e : n - 0 ≡ n = omega arith in ap (λ m. askEach q (counting 0 m)) e
+
+-- a question's answer as a call gives it, and back
+abbrev pub Grants : Option Fault → Type 0
+Grants o = _≡_ {A = Result Unit Fault} (Ok tt) (unless o tt)
+
+abbrev pub Refuses : Option Fault → Fault → Type 0
+Refuses o f = _≡_ {A = Result Unit Fault} (Err f) (unless o tt)
+
+pub grant : (o : Option Fault) → o ≡ None → Grants o
+grant o e = sym (ap (λ a. unless a tt) e)
+
+pub refuse : (o : Option Fault) (f : Fault) → o ≡ Some f → Refuses o f
+refuse o f e = sym (ap (λ a. unless a tt) e)
+
+pub granted-none : (o : Option Fault) → Grants o → o ≡ None
+granted-none None e = refl
+granted-none (Some f) e = let z : _≡_ {A = ℕ} 0 1 = cc in absurd (omega arith)
+
+pub refused-some : (o : Option Fault) (f : Fault) → Refuses o f → o ≡ Some f
+refused-some None f e = let z : _≡_ {A = ℕ} 0 1 = cc in absurd (omega arith)
+refused-some (Some h) f e = cc

@@ -20,7 +20,8 @@ use Rattle.cascade.specs.Trees.{KeyTree, ParentsSmaller, parentOf, keysAt, ordi
 use Rattle.register.specs.Limits.{mostLists, mostEdges, mostChildren, mostEntries}
 use Rattle.register.specs.Questions.{ask, orElse, countFault, parentFault, depthFault, childFault, entryFault, descentAfter, descent, orderFault, listsFault}
 use Rattle.register.specs.Shape.{Shaped}
-use Rattle.plan.proofs.Asking.{not-none, or-none, ask-yes, mapped-none, each-none}
+use Rattle.plan.specs.Columns.{shapeFault}
+use Rattle.plan.proofs.Asking.{not-none, or-none, or-assoc, ask-yes, mapped-none, each-none}
 
 module _ {K : Type 0} (t : KeyTree K) where
   pub record ShapeGranted : Type 0 where
@@ -29,6 +30,14 @@ module _ {K : Type 0} (t : KeyTree K) where
     pub depths : depthFault t ≡ None
     pub children : childFault t ≡ None
     pub entries : entryFault t ≡ None
+
+  pub shape-parts : shapeFault t ≡ None → ShapeGranted
+  shape-parts none =
+      let a = or-none (countFault t) _ none in
+      let b = or-none (parentFault t) _ (a .1) in
+      let c = or-none (depthFault t) _ (b .1) in
+      let d = or-none (childFault t) _ (c .1) in
+      record { count = a .0; parents = b .0; depths = c .0; children = d .0; entries = d .1 }
 
   pub counted : countFault t ≡ None → (1 ≤ length t) × (length t ≤ mostLists)
   counted e =
@@ -75,6 +84,15 @@ module _ {K : Type 0} (t : KeyTree K) where
     entries = few-entries (a .entries);
   }
 
+-- the questions about lists: first those about their shape, then the order of their keys
+pub lists-asked : {K : Type 0} (order : K → K → Ordering) (t : KeyTree K) → orElse (shapeFault t) (orderFault order t) ≡ listsFault order t
+lists-asked order t =
+    let o = orderFault order t in
+    or-assoc (countFault t) _ o
+    ∙ ap (orElse (countFault t))
+    (or-assoc (parentFault t) _ o
+    ∙ ap (orElse (parentFault t)) (or-assoc (depthFault t) _ o ∙ ap (orElse (depthFault t)) (or-assoc (childFault t) (entryFault t) o)))
+
 module _ {K : Type 0} (order : K → K → Ordering) where
   in-order-after : (k : K) (xs : List K) → descentAfter order k xs ≡ None → inOrderAfter order k xs ≡ true
   in-order-after k [] e = refl
@@ -89,23 +107,20 @@ module _ {K : Type 0} (order : K → K → Ordering) where
   no-descent (k ∷ ks) e = in-order-after k ks (mapped-none suc (descentAfter order k ks) e)
 
   module _ (t : KeyTree K) (granted : listsFault order t ≡ None) where
-    pub shape-granted : ShapeGranted t × (orderFault order t ≡ None)
-    shape-granted =
-        let a = or-none (countFault t) _ granted in
-        let b = or-none (parentFault t) _ (a .1) in
-        let c = or-none (depthFault t) _ (b .1) in
-        let d = or-none (childFault t) _ (c .1) in
-        let e = or-none (entryFault t) _ (d .1) in
-        (record { count = a .0; parents = b .0; depths = c .0; children = d .0; entries = e .0 }, e .1)
+    parts : (shapeFault t ≡ None) × (orderFault order t ≡ None)
+    parts = or-none (shapeFault t) (orderFault order t) (lists-asked order t ∙ granted)
+
+    pub shape-granted : ShapeGranted t
+    shape-granted = shape-parts t (parts .0)
 
     pub shaped : Shaped t
-    shaped = shaped-by t (shape-granted .0)
+    shaped = shaped-by t shape-granted
 
     pub some-lists : 1 ≤ length t
-    some-lists = counted t (shape-granted .0 .count) .0
+    some-lists = counted t (shape-granted .count) .0
 
     pub in-order : (v : ℕ) → v < length t → inOrder order (keysAt t v) ≡ true
     in-order v h =
         no-descent (keysAt t v)
         (mapped-none (λ p. fault KeyOutOfOrder v p) (descent order (keysAt t v))
-        (each-none (λ w. mapped (λ p. fault KeyOutOfOrder w p) (descent order (keysAt t w))) 0 (length t) (shape-granted .1) v (omega arith) (omega arith)))
+        (each-none (λ w. mapped (λ p. fault KeyOutOfOrder w p) (descent order (keysAt t w))) 0 (length t) (parts .1) v (omega arith) (omega arith)))

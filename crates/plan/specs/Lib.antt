@@ -1,2 +1,4 @@
+pub mod Columns
 pub mod Laid
+pub mod Room
 pub mod Table

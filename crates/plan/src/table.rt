@@ -22,3 +22,13 @@ pub struct ListTable {
     pub len: usize,
     pub runs: [ListRun; MOST_LISTS],
 }
+
+// A row of the table that no list has.
+pub const NO_RUN: ListRun = ListRun {
+    parent: 0,
+    ordinal: 0,
+    start: 0,
+    length: 0,
+    first: 0,
+    count: 0,
+};
