@@ -13,26 +13,7 @@ use layout::empty;
 use layout::known;
 use orders::KeyOrder;
 use orders::Payload;
-use plan::table::ListRun;
 use plan::table::ListTable;
-
-// The table of no lists.
-fn no_lists() -> ListTable
-    ensures { λ r. ⌜ r .len ≡ 0 ⌝ }
-{
-    let none = ListRun {
-        parent: 0,
-        ordinal: 0,
-        start: 0,
-        length: 0,
-        first: 0,
-        count: 0,
-    };
-    ListTable {
-        len: 0,
-        runs: [none; 128],
-    }
-}
 
 impl<'m, K: KeyOrder, P: Payload> Index<'m, K, P> {
     // An index of no lists over lent memory, which stays as it is.
@@ -45,7 +26,7 @@ impl<'m, K: KeyOrder, P: Payload> Index<'m, K, P> {
                 rows,
                 payloads,
             },
-            table: no_lists(),
+            table: ListTable::empty(),
             layout: empty(),
         }
     }
@@ -54,7 +35,7 @@ impl<'m, K: KeyOrder, P: Payload> Index<'m, K, P> {
     pub fn clear(&mut self)
         ensures { λ _. ⌜ machineOf (now (self .exit)) ≡ cleared (machineOf (now (self .entry))) ⌝ }
     {
-        self.table = no_lists();
+        self.table = ListTable::empty();
         self.layout = empty();
     }
 
