@@ -1,7 +1,6 @@
 -- Questions one after the other, and questions asked of numbers in rising order.
 use mathlib.Core.Path.{_≡_, refl, sym, ap, _∙_}
 use mathlib.Core.Bool.{Bool, true, false}
-use mathlib.Core.List.{List, [], _∷_}
 use mathlib.Core.Logic.{inl, inr}
 use Prim.Native.Nat.{ℕ, zero, suc, _+_, _-_, _<_, _≤_}
 use native.Mathlib.Omega.{arith}
@@ -70,9 +69,6 @@ module _ (q : ℕ → Option Fault) (v n : ℕ) where
 
   pub ask-stop : (f : Fault) → v < n → q v ≡ Some f → askFrom q v n ≡ Some f
   ask-stop f h e = ask-step h ∙ or-stop (q v) (askFrom q (v + 1) n) f e
-
-  pub ask-done : n ≤ v → askFrom q v n ≡ None
-  ask-done h = let e : n - v ≡ 0 = omega arith in ap (λ m. askEach q (counting v m)) e
 
 pub ask-all : (q : ℕ → Option Fault) (n : ℕ) → askFrom q 0 n ≡ askEach q (counting 0 n)
 ask-all q n = let e : n - 0 ≡ n = omega arith in ap (λ m. askEach q (counting 0 m)) e

@@ -1,24 +1,22 @@
 -- Columns and the lists that they have the numbers of.
 use mathlib.Core.Path.{_≡_, refl, sym, ap, subst, _∙_}
-use mathlib.Core.Bool.{Bool, true, false}
-use mathlib.Core.List.{List, [], _∷_, map}
-use Prim.Native.Nat.{ℕ, zero, suc, _+_, _-_, _*_, _/_, _<_, _≤_}
+use mathlib.Core.List.{List, []}
+use Prim.Native.Nat.{ℕ, zero, suc, _+_, _-_, _/_, _<_, _≤_}
 use native.Mathlib.Omega.{arith}
 use lib.Dec.{leb, ltb, eqb}
 use lib.ListN.{length, getD, take}
-use Rattle.std.specs.Iters.{counting}
-use Rattle.std.specs.shelf.Lists.{kept-by, sumBy, sum}
+use Rattle.std.specs.shelf.Lists.{sumBy, sum}
 use Rattle.std.specs.declared.cmp.Ordering.{Ordering}
 use Rattle.std.proofs.shelf.Sums.{sumBy-more}
 use Rattle.std.proofs.shelf.Tests.{eqb-true}
 use Rattle.std.proofs.shelf.Ways.{tells}
 use Rattle.faults.specs.Refusals.{fault}
 use Rattle.faults.specs.declared.Reason.the-variants.{ParentNotSmaller, TooDeep, TooManyChildren, TooManyEntries}
-use Rattle.cascade.specs.Trees.{KeyTree, ParentsSmaller, parentOf, keysAt, childrenOf, ordinal, depthOf, allKeys, augmented}
+use Rattle.cascade.specs.Trees.{KeyTree, ParentsSmaller, parentOf, keysAt, ordinal, depthOf, allKeys, augmented}
 use Rattle.cascade.proofs.Augmenting.{ordinal-count, lengths}
 use Rattle.cascade.proofs.Numbering.{count-among}
 use Rattle.cascade.proofs.Walking.{depth-step}
-use Rattle.register.specs.Limits.{mostLists, mostEdges, mostChildren, mostEntries}
+use Rattle.register.specs.Limits.{mostEdges, mostChildren, mostEntries}
 use Rattle.register.specs.Questions.{ask, parentFault, depthFault, childFault, entryFault}
 use Rattle.plan.specs.Columns.{cell, Holds, Smaller, Depths, childrenBefore, lengthBy, parentsAsked, mostAsked, entriesAsked}
 use Rattle.plan.proofs.Asking.{each-same}
@@ -47,11 +45,11 @@ module _ {K : Type 0} (t : KeyTree K) where
       each-same (λ v. ask (leb (depthOf t v) mostEdges) (fault TooDeep v 0)) (λ v. ask (leb (cell ds v) mostEdges) (fault TooDeep v 0)) 0 (length t)
       (λ v l m. ap (λ k. ask (leb k mostEdges) (fault TooDeep v 0)) (sym (h v (omega arith))))
 
-  pub children-asked : (os : List ℕ) → Holds (length t) (ordinal t) os → childFault t ≡ mostAsked TooManyChildren 3 (length t) os
+  pub children-asked : (os : List ℕ) → Holds (length t) (ordinal t) os → childFault t ≡ mostAsked TooManyChildren (mostChildren - 1) (length t) os
   children-asked os h =
-      each-same (λ v. ask (ltb (ordinal t v) mostChildren) (fault TooManyChildren v 0)) (λ v. ask (leb (cell os v) 3) (fault TooManyChildren v 0)) 0 (length t)
-      (λ v l m. let e : ltb (ordinal t v) 4 ≡ leb (ordinal t v) 3 = grind (arith, tells) in
-      ap (λ b. ask b (fault TooManyChildren v 0)) e ∙ ap (λ k. ask (leb k 3) (fault TooManyChildren v 0)) (sym (h v (omega arith))))
+      each-same (λ v. ask (ltb (ordinal t v) mostChildren) (fault TooManyChildren v 0)) (λ v. ask (leb (cell os v) (mostChildren - 1)) (fault TooManyChildren v 0)) 0 (length t)
+      (λ v l m. let e : ltb (ordinal t v) mostChildren ≡ leb (ordinal t v) (mostChildren - 1) = grind (arith, tells) in
+      ap (λ b. ask b (fault TooManyChildren v 0)) e ∙ ap (λ k. ask (leb k (mostChildren - 1)) (fault TooManyChildren v 0)) (sym (h v (omega arith))))
 
   pub entries-asked : (cs : List ℕ) → length t ≤ length cs → Holds (length t) (λ v. length (keysAt t v)) cs → entryFault t ≡ entriesAsked (length t) cs
   entries-asked cs l h =

@@ -1,19 +1,17 @@
 -- Lists that are measured: one question after the other, each asked of columns.
-use mathlib.Core.Path.{_≡_, refl, sym, ap, subst, _∙_}
-use mathlib.Core.Bool.{_&&_}
+use mathlib.Core.Path.{_≡_, sym, ap, subst, _∙_}
 use mathlib.Core.List.{List}
-use Prim.Native.Nat.{ℕ, _<_, _≤_}
+use Prim.Native.Nat.{ℕ, _-_, _≤_}
 use native.Mathlib.Omega.{arith}
-use lib.Dec.{leb}
 use lib.ListN.{length}
 use Rattle.std.specs.declared.option.Option.{Option}
 use Rattle.std.specs.declared.option.Option.the-variants.{Some, None}
 use Rattle.std.specs.declared.result.Result.{Result}
-use Rattle.std.specs.declared.result.Result.the-variants.{Ok, Err}
+use Rattle.std.specs.declared.result.Result.the-variants.{Err}
 use Rattle.faults.specs.declared.Fault.{Fault}
 use Rattle.faults.specs.declared.Reason.the-variants.{TooDeep, TooManyChildren}
-use Rattle.cascade.specs.Trees.{KeyTree, ParentsSmaller, parentOf, keysAt, ordinal, depthOf}
-use Rattle.register.specs.Limits.{mostLists, mostEdges}
+use Rattle.cascade.specs.Trees.{KeyTree, parentOf, keysAt, ordinal}
+use Rattle.register.specs.Limits.{mostLists, mostEdges, mostChildren}
 use Rattle.register.specs.Questions.{orElse, countFault, parentFault, depthFault, childFault, entryFault}
 use Rattle.plan.specs.Columns.{cell, Holds, Filled, Smaller, Depths, childrenBefore, countAsked, parentsAsked, mostAsked, entriesAsked, shapeFault, Numbers, Measures}
 use Rattle.plan.specs.declared.columns.Columns.{Columns}
@@ -79,17 +77,17 @@ module _ {K : Type 0} (t : KeyTree K) (n : ℕ) (len : n ≡ length t) where
           depths-none : depthFault t ≡ None
           depths-none = depths-linked ∙ granted-none (mostAsked TooDeep mostEdges n ds) yes-depths
 
-          children-linked : childFault t ≡ mostAsked TooManyChildren 3 n os
-          children-linked = children-asked t os ordinals-here ∙ ap (λ k. mostAsked TooManyChildren 3 k os) (sym len)
+          children-linked : childFault t ≡ mostAsked TooManyChildren (mostChildren - 1) n os
+          children-linked = children-asked t os ordinals-here ∙ ap (λ k. mostAsked TooManyChildren (mostChildren - 1) k os) (sym len)
 
-          pub no-children : (f : Fault) → Refuses (mostAsked TooManyChildren 3 n os) f → shapeFault t ≡ Some f
+          pub no-children : (f : Fault) → Refuses (mostAsked TooManyChildren (mostChildren - 1) n os) f → shapeFault t ≡ Some f
           no-children f e =
               or-next (countFault t) (orElse (parentFault t) (orElse (depthFault t) (orElse (childFault t) (entryFault t)))) (Some f) count-none
               (or-next (parentFault t) (orElse (depthFault t) (orElse (childFault t) (entryFault t))) (Some f) parents-none
               (or-next (depthFault t) (orElse (childFault t) (entryFault t)) (Some f) depths-none
-              (or-stop (childFault t) (entryFault t) f (children-linked ∙ refused-some (mostAsked TooManyChildren 3 n os) f e))))
+              (or-stop (childFault t) (entryFault t) f (children-linked ∙ refused-some (mostAsked TooManyChildren (mostChildren - 1) n os) f e))))
 
-          module _ (yes-children : Grants (mostAsked TooManyChildren 3 n os)) (cs : List ℕ) (counts : Filled mostLists (λ v. length (keysAt t v)) cs) where
+          module _ (yes-children : Grants (mostAsked TooManyChildren (mostChildren - 1) n os)) (cs : List ℕ) (counts : Filled mostLists (λ v. length (keysAt t v)) cs) where
             counts-here : Filled (length t) (λ v. length (keysAt t v)) cs
             counts-here = let w = within in fewer (length t) mostLists (λ v. length (keysAt t v)) cs (omega arith) counts
 
@@ -101,7 +99,7 @@ module _ {K : Type 0} (t : KeyTree K) (n : ℕ) (len : n ≡ length t) where
                 or-next (countFault t) (orElse (parentFault t) (orElse (depthFault t) (orElse (childFault t) (entryFault t)))) x count-none
                 (or-next (parentFault t) (orElse (depthFault t) (orElse (childFault t) (entryFault t))) x parents-none
                 (or-next (depthFault t) (orElse (childFault t) (entryFault t)) x depths-none
-                (or-next (childFault t) (entryFault t) x (children-linked ∙ granted-none (mostAsked TooManyChildren 3 n os) yes-children) e)))
+                (or-next (childFault t) (entryFault t) x (children-linked ∙ granted-none (mostAsked TooManyChildren (mostChildren - 1) n os) yes-children) e)))
 
             pub no-entries : (f : Fault) → Refuses (entriesAsked n cs) f → shapeFault t ≡ Some f
             no-entries f e = rest (entries-linked ∙ refused-some (entriesAsked n cs) f e)

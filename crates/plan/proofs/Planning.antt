@@ -1,19 +1,19 @@
 -- Lists whose numbers stand in columns: what their sums come to, and that the table made of the columns is theirs.
-use mathlib.Core.Path.{_≡_, refl, sym, ap, subst, _∙_}
-use mathlib.Core.List.{List, [], _∷_}
-use Prim.Native.Nat.{ℕ, _+_, _*_, _<_, _≤_, _^_}
+use mathlib.Core.Path.{_≡_, ap, subst, _∙_}
+use mathlib.Core.List.{List, []}
+use Prim.Native.Nat.{ℕ, _<_, _≤_, _^_}
 use native.Mathlib.Omega.{arith}
 use lib.ListN.{length, getD, take}
 use Rattle.std.specs.shelf.Lists.{sumBy, sum}
 use Rattle.std.specs.declared.cmp.Ordering.{Ordering}
 use Rattle.std.proofs.shelf.Counted.{fill-by-all}
 use Rattle.std.proofs.shelf.Lists.{length-take-le, getD-take, take-all}
-use Rattle.cascade.specs.Trees.{KeyTree, keysAt, allKeys, augmented, augmentedLists, allAugmented}
+use Rattle.cascade.specs.Trees.{KeyTree, allKeys, augmented, augmentedLists, allAugmented}
 use Rattle.cascade.proofs.Augmenting.{length-augmentedFrom}
 use Rattle.cascade.proofs.Spacing.{space}
 use Rattle.register.specs.Limits.{mostLists, mostEntries}
 use Rattle.register.specs.Shape.{Shaped}
-use Rattle.plan.specs.Columns.{cell, Holds, Filled, Smaller, lengthBy, runBy, noRun, Numbers}
+use Rattle.plan.specs.Columns.{Holds, Filled, Smaller, lengthBy, runBy, noRun, Numbers}
 use Rattle.plan.specs.Table.{runAt, Tabled}
 use Rattle.plan.specs.declared.columns.Columns.{Columns}
 use Rattle.plan.specs.declared.table.ListTable.{ListTable}

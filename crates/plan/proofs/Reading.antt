@@ -1,13 +1,12 @@
 -- What a shelf answers, read in the tree of its keys.
 use mathlib.Core.Path.{_≡_, refl, sym, ap, _∙_}
-use mathlib.Core.List.{List, [], _∷_, map}
+use mathlib.Core.List.{List, [], _∷_}
 use Prim.Native.Nat.{ℕ, zero, suc, _+_, _<_}
 use native.Mathlib.Omega.{arith}
-use lib.ListN.{length, getD, drop, length-map}
+use lib.ListN.{length, drop, length-map}
 use Rattle.std.specs.Finite.{nth}
-use Rattle.std.specs.Options.{mapped, valueOr}
-use Rattle.std.specs.declared.option.Option.{Option}
-use Rattle.std.specs.declared.option.Option.the-variants.{Some, None}
+use Rattle.std.specs.Options.{valueOr}
+use Rattle.std.specs.declared.option.Option.the-variants.{Some}
 use Rattle.orders.specs.declared.entry.Entry.{Entry}
 use Rattle.shelves.specs.Meaning.{Branch, entriesOf, parentAt, countAt, entryAt, keysOf}
 use Rattle.cascade.specs.Trees.{parentOf, keysAt}

@@ -1,20 +1,16 @@
 -- What the lists of a table take in the three memories.
 use mathlib.Core.Path.{_≡_, refl, sym, ap, _∙_}
-use mathlib.Core.List.{List, []}
-use Prim.Native.Nat.{ℕ, _+_, _-_, _*_, _<_, _≤_, _^_}
+use mathlib.Core.List.{[]}
+use Prim.Native.Nat.{_+_, _-_, _≤_}
 use native.Mathlib.Omega.{arith}
-use lib.Dec.{leb}
-use lib.ListN.{length, getD, take}
+use lib.ListN.{length, getD}
 use Rattle.std.specs.declared.cmp.Ordering.{Ordering}
-use Rattle.std.specs.declared.option.Option.{Option}
-use Rattle.std.specs.declared.option.Option.the-variants.{Some, None}
+use Rattle.std.specs.declared.option.Option.the-variants.{None}
 use Rattle.std.specs.shelf.Lists.{sumBy}
 use Rattle.std.proofs.shelf.Lists.{take-all}
-use Rattle.faults.specs.declared.Fault.{Fault}
-use Rattle.cascade.specs.Trees.{KeyTree, keysAt, allKeys, augmentedLists, allAugmented}
+use Rattle.cascade.specs.Trees.{KeyTree, allKeys, augmentedLists, allAugmented}
 use Rattle.cascade.proofs.Augmenting.{length-augmentedFrom}
 use Rattle.cascade.proofs.Spacing.{space}
-use Rattle.register.specs.Limits.{mostLists, mostEntries}
 use Rattle.register.specs.Questions.{orElse, Sizes, listsFault, memoryFault}
 use Rattle.plan.specs.Columns.{noRun}
 use Rattle.plan.specs.Room.{noTable, lastRun, keysTaken, payloadsTaken, Countable, roomFault, tableFault}

@@ -9,13 +9,13 @@ use shelves::Shelf;
 use table::ListTable;
 use tabling::table_of;
 
-pub mod columns;
-pub mod measures;
-pub mod numbers;
-pub mod questions;
-pub mod room;
+mod columns;
+mod measures;
+mod numbers;
+mod questions;
+mod room;
 pub mod table;
-pub mod tabling;
+mod tabling;
 
 // Asks every question about the lists of a shelf, and gives the table of the runs that they take in memory.
 pub fn plan<S: Shelf>(shelf: &S) -> Result<ListTable, Fault>

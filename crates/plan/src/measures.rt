@@ -6,14 +6,12 @@ use crate::numbers::counts_of;
 use crate::numbers::depths_of;
 use crate::numbers::ordinals_of;
 use crate::numbers::parents_of;
+use crate::questions::ask_children;
 use crate::questions::ask_count;
+use crate::questions::ask_depths;
 use crate::questions::ask_entries;
-use crate::questions::ask_most;
 use crate::questions::ask_parents;
 use faults::Fault;
-use faults::Reason;
-use register::limits::MOST_CHILDREN;
-use register::limits::MOST_EDGES;
 use shelves::Shelf;
 
 // Asks every question about the lists of a shelf besides the order of their keys, and gives the lists' numbers.
@@ -25,9 +23,9 @@ pub fn measure<S: Shelf>(shelf: &S) -> Result<Columns, Fault>
     let parents = parents_of(shelf);
     ask_parents(len, &parents)?;
     let depths = depths_of(len, &parents);
-    ask_most(len, &depths, MOST_EDGES, Reason::TooDeep)?;
+    ask_depths(len, &depths)?;
     let ordinals = ordinals_of(len, &parents);
-    ask_most(len, &ordinals, MOST_CHILDREN - 1, Reason::TooManyChildren)?;
+    ask_children(len, &ordinals)?;
     let counts = counts_of(shelf);
     ask_entries(len, &counts)?;
     Ok(Columns {

@@ -1,7 +1,6 @@
 // Numbers of lists: read from a shelf, or worked out from parents and counts.
-ghost use mathlib.Core.Path.{_≡_};
-ghost use Prim.Native.Nat.{ℕ, _+_, _<_, _≤_, _^_};
-ghost use lib.ListN.{length, getD, take};
+ghost use Prim.Native.Nat.{_≤_};
+ghost use lib.ListN.{length, take};
 ghost use Rattle.std.specs.shelf.Lists.{sum};
 ghost use Rattle.cascade.specs.Trees.{parentOf, keysAt};
 ghost use Rattle.layout.specs.KeyTrees.{keyTree};
@@ -10,6 +9,9 @@ ghost use Rattle.plan.specs.Columns.{Filled, Smaller, Depths, childrenBefore, 
 use crate::columns::Column;
 use register::limits::MOST_LISTS;
 use shelves::Shelf;
+
+// How many keys of an augmented list give its parent one sample.
+const SAMPLING_STEP: usize = 4;
 
 // The parent of each list.
 pub fn parents_of<S: Shelf>(shelf: &S) -> Column
@@ -76,6 +78,3 @@ pub fn lengths_of(len: usize, parents: &Column, counts: &Column) -> Column
     }
     lengths
 }
-
-// How many keys of an augmented list give its parent one sample.
-const SAMPLING_STEP: usize = 4;

@@ -1,19 +1,22 @@
 // The questions about the lists of a shelf. The first "no" is the refusal.
 ghost use mathlib.Core.Path.{_≡_};
-ghost use Prim.Native.Nat.{_≤_};
+ghost use Prim.Native.Nat.{_-_, _≤_};
 ghost use lib.ListN.{length};
 ghost use Rattle.std.specs.Options.{mapped};
+ghost use Rattle.std.specs.Orderings.{isLt};
 ghost use Rattle.faults.specs.Refusals.{fault};
-ghost use Rattle.faults.specs.declared.Reason.the-variants.{KeyOutOfOrder};
+ghost use Rattle.faults.specs.declared.Reason.the-variants.{TooDeep, TooManyChildren, KeyOutOfOrder};
 ghost use Rattle.cascade.specs.Trees.{keysAt};
 ghost use Rattle.layout.specs.KeyTrees.{keyTree};
-ghost use Rattle.register.specs.Limits.{mostLists};
+ghost use Rattle.register.specs.Limits.{mostLists, mostEdges, mostChildren};
 ghost use Rattle.register.specs.Questions.{unless, descent, orderFault};
 ghost use Rattle.plan.specs.Columns.{countAsked, parentsAsked, mostAsked, entriesAsked};
 use crate::columns::Column;
 use faults::Fault;
 use faults::Reason;
 use orders::KeyOrder;
+use register::limits::MOST_CHILDREN;
+use register::limits::MOST_EDGES;
 use register::limits::MOST_ENTRIES;
 use register::limits::MOST_LISTS;
 use shelves::Shelf;
@@ -44,7 +47,7 @@ pub fn ask_parents(len: usize, parents: &Column) -> Result<(), Fault>
 }
 
 // Has each list at most so much? The reason is for the first that has more.
-pub fn ask_most(len: usize, column: &Column, most: usize, reason: Reason) -> Result<(), Fault>
+fn ask_most(len: usize, column: &Column, most: usize, reason: Reason) -> Result<(), Fault>
     requires { ⌜ len ≤ mostLists ⌝ }
     ensures { λ r. ⌜ r ≡ unless (mostAsked reason most len (now (column .entry))) tt ⌝ }
 {
@@ -54,6 +57,22 @@ pub fn ask_most(len: usize, column: &Column, most: usize, reason: Reason) -> Res
         }
     }
     Ok(())
+}
+
+// Is each list at most 8 edges below the root?
+pub fn ask_depths(len: usize, depths: &Column) -> Result<(), Fault>
+    requires { ⌜ len ≤ mostLists ⌝ }
+    ensures { λ r. ⌜ r ≡ unless (mostAsked TooDeep mostEdges len (now (depths .entry))) tt ⌝ }
+{
+    ask_most(len, depths, MOST_EDGES, Reason::TooDeep)
+}
+
+// Is each list at most its parent's fourth child?
+pub fn ask_children(len: usize, ordinals: &Column) -> Result<(), Fault>
+    requires { ⌜ len ≤ mostLists ⌝ }
+    ensures { λ r. ⌜ r ≡ unless (mostAsked TooManyChildren (mostChildren - 1) len (now (ordinals .entry))) tt ⌝ }
+{
+    ask_most(len, ordinals, MOST_CHILDREN - 1, Reason::TooManyChildren)
 }
 
 // Do the entries, list after list, stay within 40,000?
@@ -72,8 +91,15 @@ pub fn ask_entries(len: usize, counts: &Column) -> Result<(), Fault>
     Ok(())
 }
 
+// Whether a key is below another.
+fn is_below<K: KeyOrder>(key: &K, other: &K) -> bool
+    ensures { λ r. ⌜ r ≡ isLt (order (now (key .entry)) (now (other .entry))) ⌝ }
+{
+    key.compare(other).is_lt()
+}
+
 // Is every key of a list not below the one before it?
-pub fn ask_list_order<S: Shelf>(shelf: &S, list: usize) -> Result<(), Fault>
+fn ask_list_order<S: Shelf>(shelf: &S, list: usize) -> Result<(), Fault>
     ensures { λ r. ⌜ r ≡ unless (mapped (λ p. fault KeyOutOfOrder list p) (descent (Key·KeyOrder .order) (keysAt (keyTree (meaning (now (shelf .entry)))) list))) tt ⌝ }
 {
     let Some(first) = shelf.entry(list, 0) else {
@@ -82,7 +108,7 @@ pub fn ask_list_order<S: Shelf>(shelf: &S, list: usize) -> Result<(), Fault>
     let mut before = first.key;
     for place in 1..shelf.count(list) {
         if let Some(entry) = shelf.entry(list, place) {
-            if entry.key.compare(&before).is_lt() {
+            if is_below(&entry.key, &before) {
                 return Err(Fault::new(Reason::KeyOutOfOrder, list, place));
             }
             before = entry.key;

@@ -1,6 +1,6 @@
 // Room for the lists of a table in the three memories.
 ghost use mathlib.Core.Path.{_≡_};
-ghost use Rattle.register.specs.Questions.{unless, Sizes};
+ghost use Rattle.register.specs.Questions.{unless};
 ghost use Rattle.plan.specs.Room.{noTable, Countable, roomFault, tableFault};
 use crate::table::ListTable;
 use crate::table::NO_RUN;

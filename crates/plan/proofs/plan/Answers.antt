@@ -1,9 +1,6 @@
-use mathlib.Core.Path.{_≡_, sym, _∙_}
-use Prim.Native.Nat.{_<_, _^_}
+use mathlib.Core.Path.{sym, _∙_}
 use native.Mathlib.Omega.{arith}
-use lib.ListN.{take}
 use Rattle.std.specs.declared.option.Option.the-variants.{None}
-use Rattle.std.specs.shelf.Lists.{sum}
 use Rattle.layout.specs.KeyTrees.{keyTree}
 use Rattle.register.specs.Questions.{orderFault}
 use Rattle.plan.specs.Columns.{shapeFault}

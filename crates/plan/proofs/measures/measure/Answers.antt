@@ -28,13 +28,13 @@ depths-of-depths-requires g c κs =
     let len = c .lists-len .ensures ∙ sym (length-tree (g .S·Shelf .meaning (c .args .shelf .now))) in
     (within t (c .lists-len .result) len (c .in-Continue-ask-count .ensures tt) (c .parents-of-parents .result) (c .parents-of-parents .ensures), smaller-here t (c .lists-len .result) len (c .in-Continue-ask-count .ensures tt) (c .parents-of-parents .result) (c .parents-of-parents .ensures) (c .in-Continue-ask-parents .ensures tt))
 
-pub returns-in-Break-ask-most : need.returns-in-Break-ask-most
-returns-in-Break-ask-most g c =
+pub returns-in-Break-ask-depths : need.returns-in-Break-ask-depths
+returns-in-Break-ask-depths g c =
     let t = keyTree (g .S·Shelf .meaning (c .args .shelf .now)) in
     let len = c .lists-len .ensures ∙ sym (length-tree (g .S·Shelf .meaning (c .args .shelf .now))) in
-    let f = c .in-Break-ask-most .field-0 .0 in
-    let p = err-from-errBy (c .from-residual-in-Break-ask-most .result) (c .from-residual-in-Break-ask-most .ensures .1) in
-    refused t (c .from-residual-in-Break-ask-most .result) f (p .1 ∙ ap (λ e. Err e) (p .2)) (no-depths t (c .lists-len .result) len (c .in-Continue-ask-count .ensures tt) (c .parents-of-parents .result) (c .parents-of-parents .ensures) (c .in-Continue-ask-parents .ensures tt) (c .depths-of-depths .result) (c .depths-of-depths .ensures) f (c .in-Break-ask-most .ensures tt))
+    let f = c .in-Break-ask-depths .field-0 .0 in
+    let p = err-from-errBy (c .from-residual-in-Break-ask-depths .result) (c .from-residual-in-Break-ask-depths .ensures .1) in
+    refused t (c .from-residual-in-Break-ask-depths .result) f (p .1 ∙ ap (λ e. Err e) (p .2)) (no-depths t (c .lists-len .result) len (c .in-Continue-ask-count .ensures tt) (c .parents-of-parents .result) (c .parents-of-parents .ensures) (c .in-Continue-ask-parents .ensures tt) (c .depths-of-depths .result) (c .depths-of-depths .ensures) f (c .in-Break-ask-depths .ensures tt))
 
 pub ordinals-of-ordinals-requires : need.ordinals-of-ordinals-requires
 ordinals-of-ordinals-requires g c κs =
@@ -42,13 +42,13 @@ ordinals-of-ordinals-requires g c κs =
     let len = c .lists-len .ensures ∙ sym (length-tree (g .S·Shelf .meaning (c .args .shelf .now))) in
     (within t (c .lists-len .result) len (c .in-Continue-ask-count .ensures tt) (c .parents-of-parents .result) (c .parents-of-parents .ensures), smaller-here t (c .lists-len .result) len (c .in-Continue-ask-count .ensures tt) (c .parents-of-parents .result) (c .parents-of-parents .ensures) (c .in-Continue-ask-parents .ensures tt))
 
-pub returns-in-Break-ask-most-2 : need.returns-in-Break-ask-most-2
-returns-in-Break-ask-most-2 g c =
+pub returns-in-Break-ask-children : need.returns-in-Break-ask-children
+returns-in-Break-ask-children g c =
     let t = keyTree (g .S·Shelf .meaning (c .args .shelf .now)) in
     let len = c .lists-len .ensures ∙ sym (length-tree (g .S·Shelf .meaning (c .args .shelf .now))) in
-    let f = c .in-Break-ask-most-2 .field-0 .0 in
-    let p = err-from-errBy (c .from-residual-in-Break-ask-most-2 .result) (c .from-residual-in-Break-ask-most-2 .ensures .1) in
-    refused t (c .from-residual-in-Break-ask-most-2 .result) f (p .1 ∙ ap (λ e. Err e) (p .2)) (no-children t (c .lists-len .result) len (c .in-Continue-ask-count .ensures tt) (c .parents-of-parents .result) (c .parents-of-parents .ensures) (c .in-Continue-ask-parents .ensures tt) (c .depths-of-depths .result) (c .depths-of-depths .ensures) (c .in-Continue-ask-most .ensures tt) (c .ordinals-of-ordinals .result) (c .ordinals-of-ordinals .ensures) f (c .in-Break-ask-most-2 .ensures tt))
+    let f = c .in-Break-ask-children .field-0 .0 in
+    let p = err-from-errBy (c .from-residual-in-Break-ask-children .result) (c .from-residual-in-Break-ask-children .ensures .1) in
+    refused t (c .from-residual-in-Break-ask-children .result) f (p .1 ∙ ap (λ e. Err e) (p .2)) (no-children t (c .lists-len .result) len (c .in-Continue-ask-count .ensures tt) (c .parents-of-parents .result) (c .parents-of-parents .ensures) (c .in-Continue-ask-parents .ensures tt) (c .depths-of-depths .result) (c .depths-of-depths .ensures) (c .in-Continue-ask-depths .ensures tt) (c .ordinals-of-ordinals .result) (c .ordinals-of-ordinals .ensures) f (c .in-Break-ask-children .ensures tt))
 
 pub returns-in-Break-ask-entries : need.returns-in-Break-ask-entries
 returns-in-Break-ask-entries g c =
@@ -56,10 +56,10 @@ returns-in-Break-ask-entries g c =
     let len = c .lists-len .ensures ∙ sym (length-tree (g .S·Shelf .meaning (c .args .shelf .now))) in
     let f = c .in-Break-ask-entries .field-0 .0 in
     let p = err-from-errBy (c .from-residual-in-Break-ask-entries .result) (c .from-residual-in-Break-ask-entries .ensures .1) in
-    refused t (c .from-residual-in-Break-ask-entries .result) f (p .1 ∙ ap (λ e. Err e) (p .2)) (no-entries t (c .lists-len .result) len (c .in-Continue-ask-count .ensures tt) (c .parents-of-parents .result) (c .parents-of-parents .ensures) (c .in-Continue-ask-parents .ensures tt) (c .depths-of-depths .result) (c .depths-of-depths .ensures) (c .in-Continue-ask-most .ensures tt) (c .ordinals-of-ordinals .result) (c .ordinals-of-ordinals .ensures) (c .in-Continue-ask-most-2 .ensures tt) (c .counts-of-counts .result) (c .counts-of-counts .ensures) f (c .in-Break-ask-entries .ensures tt))
+    refused t (c .from-residual-in-Break-ask-entries .result) f (p .1 ∙ ap (λ e. Err e) (p .2)) (no-entries t (c .lists-len .result) len (c .in-Continue-ask-count .ensures tt) (c .parents-of-parents .result) (c .parents-of-parents .ensures) (c .in-Continue-ask-parents .ensures tt) (c .depths-of-depths .result) (c .depths-of-depths .ensures) (c .in-Continue-ask-depths .ensures tt) (c .ordinals-of-ordinals .result) (c .ordinals-of-ordinals .ensures) (c .in-Continue-ask-children .ensures tt) (c .counts-of-counts .result) (c .counts-of-counts .ensures) f (c .in-Break-ask-entries .ensures tt))
 
 pub returns : need.returns
 returns g c =
     let t = keyTree (g .S·Shelf .meaning (c .args .shelf .now)) in
     let len = c .lists-len .ensures ∙ sym (length-tree (g .S·Shelf .meaning (c .args .shelf .now))) in
-    measured t (c .lists-len .result) len (c .in-Continue-ask-count .ensures tt) (c .parents-of-parents .result) (c .parents-of-parents .ensures) (c .in-Continue-ask-parents .ensures tt) (c .depths-of-depths .result) (c .depths-of-depths .ensures) (c .in-Continue-ask-most .ensures tt) (c .ordinals-of-ordinals .result) (c .ordinals-of-ordinals .ensures) (c .in-Continue-ask-most-2 .ensures tt) (c .counts-of-counts .result) (c .counts-of-counts .ensures) (c .in-Continue-ask-entries .ensures tt)
+    measured t (c .lists-len .result) len (c .in-Continue-ask-count .ensures tt) (c .parents-of-parents .result) (c .parents-of-parents .ensures) (c .in-Continue-ask-parents .ensures tt) (c .depths-of-depths .result) (c .depths-of-depths .ensures) (c .in-Continue-ask-depths .ensures tt) (c .ordinals-of-ordinals .result) (c .ordinals-of-ordinals .ensures) (c .in-Continue-ask-children .ensures tt) (c .counts-of-counts .result) (c .counts-of-counts .ensures) (c .in-Continue-ask-entries .ensures tt)

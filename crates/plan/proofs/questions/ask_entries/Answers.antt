@@ -10,7 +10,7 @@ use Rattle.faults.specs.Refusals.{fault}
 use Rattle.faults.specs.declared.Reason.the-variants.{TooManyEntries}
 use Rattle.register.specs.Limits.{mostEntries}
 use Rattle.register.specs.Questions.{ask}
-use Rattle.plan.specs.Columns.{cell, entriesAsked}
+use Rattle.plan.specs.Columns.{entriesAsked}
 use Rattle.plan.proofs.Asking.{ask-more, ask-stop, refuse}
 use Rattle.plan.proofs.questions.ask_entries.Needs as need
 

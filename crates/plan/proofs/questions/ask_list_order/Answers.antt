@@ -1,7 +1,6 @@
-use mathlib.Core.Path.{_≡_, refl, sym, ap, _∙_}
+use mathlib.Core.Path.{_≡_, sym, ap, _∙_}
 use mathlib.Core.Bool.{true, false}
-use mathlib.Core.List.{_∷_}
-use Prim.Native.Nat.{ℕ, _+_, _<_, _≤_}
+use Prim.Native.Nat.{_+_, _<_, _≤_}
 use native.Mathlib.Omega.{arith}
 use lib.ListN.{length, drop}
 use Rattle.std.specs.Options.{mapped}
@@ -17,7 +16,7 @@ use Rattle.plan.proofs.Asking.{grant, refuse}
 use Rattle.plan.proofs.Descents.{descentFrom, from-first, from-lower, from-more}
 use Rattle.plan.proofs.Reading.{count-read, entry-read, entry-there, no-entry}
 use Rattle.plan.proofs.questions.ask_list_order.Needs as need
-use Rattle.plan.proofs.questions.ask_list_order.Needs.{in-Some-entry·else-is-lt, in-rest-entry}
+use Rattle.plan.proofs.questions.ask_list_order.Needs.{in-Some-entry·else-is-below, in-rest-entry}
 
 pub returns-in-rest : need.returns-in-rest
 returns-in-rest g c =
@@ -35,15 +34,15 @@ loop-place-holds g c =
     let e = c .in-Some .first in
     from-first o (e .key) (drop 1 (keysAt (keyTree bs) v)) ∙ ap (descent o) (sym (entry-read bs v 0 e (sym (c .entry .ensures) ∙ c .in-Some .is)))
 
-pub returns-then-is-lt : need.returns-then-is-lt
-returns-then-is-lt g c =
+pub returns-then-is-below : need.returns-then-is-below
+returns-then-is-below g c =
     let bs = g .S·Shelf .meaning (c .args .shelf .now) in
     let v = c .args .list in
     let o = g .Key·KeyOrder .order in
     let ks = keysAt (keyTree bs) v in
     let n = c .loop-place .place in
     let e = c .in-Some-entry .entry in
-    let lower : isLt (o (e .key) (c .loop-place .before)) ≡ true = sym (c .is-lt .ensures ∙ ap isLt (c .compare .ensures)) ∙ c .if-is-lt .taken in
+    let lower : isLt (o (e .key) (c .loop-place .before)) ≡ true = sym (c .is-below .ensures) ∙ c .if-is-below .taken in
     let there = entry-read bs v n e (sym (c .entry-in-loop-place .ensures) ∙ c .in-Some-entry .is) in
     simp (c .new .ensures)
     (refuse (mapped (λ p. fault KeyOutOfOrder v p) (descent o ks)) (fault KeyOutOfOrder v n)
@@ -58,9 +57,9 @@ loop-place-again g c =
     let n = c .loop-place .place in
     let go : descentFrom o (n + 1) (c .match-entry-2 .before) (drop (n + 1) ks) ≡ descent o ks =
     elim (c .match-entry-2 .came) [
-      | in-Some-entry·else-is-lt w ↦
+      | in-Some-entry·else-is-below w ↦
           let e = w .in-Some-entry .entry in
-          let rises : isLt (o (e .key) (c .loop-place .before)) ≡ false = sym (w .is-lt .ensures ∙ ap isLt (w .compare .ensures)) ∙ w .if-is-lt .left in
+          let rises : isLt (o (e .key) (c .loop-place .before)) ≡ false = sym (w .is-below .ensures) ∙ w .if-is-below .left in
           let there = entry-read bs v n e (sym (c .entry-in-loop-place .ensures) ∙ w .in-Some-entry .is) in
           ap (λ k. descentFrom o (n + 1) k (drop (n + 1) ks)) (w .before-is) ∙ from-more o n (c .loop-place .before) (e .key) ks there rises ∙ c .loop-place .inv
       | in-rest-entry w ↦

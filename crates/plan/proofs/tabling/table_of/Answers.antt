@@ -1,8 +1,6 @@
-use mathlib.Core.Path.{_≡_, _∙_}
-use Prim.Native.Nat.{ℕ, _+_, _<_, _≤_}
+use mathlib.Core.Path.{_≡_}
 use native.Mathlib.Omega.{arith}
-use lib.ListN.{length, take}
-use Rattle.std.specs.shelf.Lists.{sum}
+use lib.ListN.{length}
 use Rattle.std.proofs.shelf.Sums.{sumBy-more}
 use Rattle.register.specs.Limits.{mostLists}
 use Rattle.plan.specs.Columns.{cell, runBy, noRun}
