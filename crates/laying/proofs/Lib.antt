@@ -1,0 +1,6 @@
+mod Choosing
+mod Heads
+mod Reading
+mod Pasting
+mod Steps
+mod Siblings
