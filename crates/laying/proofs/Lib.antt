@@ -4,3 +4,5 @@ mod Reading
 mod Pasting
 mod Steps
 mod Siblings
+mod Sourcing
+mod Placing

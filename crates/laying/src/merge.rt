@@ -34,9 +34,9 @@ pub fn merge<S: Shelf>(
     let mut row = Row { own: 0, children: [0; MOST_CHILDREN] };
     for p in 0..count {
         rows[start + list + p] = row;
-        if let Some((source, key)) = least(shelf, list, children, keys, &row) {
-            keys[start + p] = key;
-            row = counted(row, source);
+        if let Some(head) = least(shelf, list, children, keys, &row) {
+            keys[start + p] = head.1;
+            row = counted(row, head.0);
         }
     }
     rows[start + list + count] = row;

@@ -23,7 +23,7 @@ counted-row-requires g c κs =
     let xs = augmented order t (c .args .list) in
     let whole = c .pre .whole in
     let inside : c .loop-p .p < length xs = omega arith in
-    let y : ℕ × g .S·Key .Denot = (c .in-Some .source, c .in-Some .key) in
+    let y : ℕ × g .S·Key .Denot = c .in-Some .head in
     (source-known order (g .Key·KeyOrder·met .lawful) xs (keysAt t (c .args .list)) (c .args .children .now) (c .args .start) (c .args .keys .now) (c .pre .mergeable)
     (c .loop-p .p) inside (c .loop-p .keys) (c .loop-p .row) (c .loop-p .inv .0) (c .loop-p .inv .2) y (c .in-Some .ensures tt),
     tally-fits order (g .Key·KeyOrder·met .lawful) xs (keysAt t (c .args .list)) (c .args .children .now) (c .args .start) (c .args .keys .now) (c .pre .mergeable)
@@ -39,7 +39,7 @@ loop-p-again g c =
     let rows = rows-more xs (c .args .rows .now) (c .loop-p .rows) (c .args .start + c .args .list) (c .loop-p .p) (c .loop-p .row) (omega arith) (omega arith) (c .loop-p .inv .1) (c .loop-p .inv .2) in
     elim (c .match-least .came) [
       | in-Some w ↦
-          let y : ℕ × g .S·Key .Denot = (w .in-Some .source, w .in-Some .key) in (
+          let y : ℕ × g .S·Key .Denot = w .in-Some .head in (
             w .keys-is
                 ∙ keys-more order (g .Key·KeyOrder·met .lawful) xs (keysAt t (c .args .list)) (c .args .children .now) (c .args .start) (c .args .keys .now) (c .pre .mergeable)
                 (c .loop-p .p) inside (c .loop-p .keys) (c .loop-p .row) (c .loop-p .inv .0) (c .loop-p .inv .2) y (w .in-Some .ensures tt),

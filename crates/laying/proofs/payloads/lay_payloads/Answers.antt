@@ -12,6 +12,7 @@ use Rattle.plan.specs.declared.table.ListRun.{ListRun}
 use Rattle.register.specs.Memory.{payloadsLaid}
 use Rattle.laying.proofs.Pasting.{same-lengths, keys-until, lists-more}
 use Rattle.laying.proofs.Reading.{length-keyTree, run-at}
+use Rattle.laying.specs.Children.{runOf}
 use Rattle.laying.specs.Laying.{payloadsAt}
 use Rattle.laying.proofs.payloads.lay_payloads.Needs as need
 
@@ -38,9 +39,10 @@ loop-v-again g c =
     let lists = c .pre .tabled .lists in
     let l = length-keyTree bs in
     let run = run-at t (augmentedLists (g .Key·KeyOrder .order) t) (c .args .table .now) (c .pre .tabled) v (omega arith) in
+    let at = runOf (c .args .table .now .runs) v in
     c .lay-list-payloads .ensures
-    ∙ ap (λ zs. paste zs _ (payloadsAt bs v) _) (c .loop-v .inv)
-    ∙ lists-more bs v (c .args .payloads .now) _ _ (omega arith) (ap (λ (r : ListRun). r .first) run) (ap (λ (r : ListRun). r .count) run ∙ same-lengths bs v)
+    ∙ ap (λ zs. paste zs (at .first) (payloadsAt bs v) (at .count)) (c .loop-v .inv)
+    ∙ lists-more bs v (c .args .payloads .now) (at .first) (at .count) (omega arith) (ap (λ (r : ListRun). r .first) run) (ap (λ (r : ListRun). r .count) run ∙ same-lengths bs v)
 
 pub returns : need.returns
 returns g c =
