@@ -1,0 +1,3 @@
+pub mod Laying
+pub mod Merging
+pub mod Children
