@@ -1,9 +1,9 @@
 // The calls on an index.
 ghost use mathlib.Core.Path.{_≡_};
-ghost use Rattle.register.specs.Questions.{unless, placeFault};
+ghost use Rattle.register.specs.Questions.{unless, buildFault, placeFault};
 ghost use Rattle.layout.specs.KeyTrees.{keyTree};
 ghost use Rattle.index.specs.Held.{machineOf};
-ghost use Rattle.index.specs.Machine.{Sound, blank, cleared, afterAmend};
+ghost use Rattle.index.specs.Machine.{Sound, sizesOf, blank, cleared, afterAmend, afterBuild};
 use crate::Index;
 use crate::Memory;
 use cascade::row::Row;
@@ -11,9 +11,12 @@ use faults::Fault;
 use faults::Reason;
 use layout::empty;
 use layout::known;
+use layout::of_shelf;
 use orders::KeyOrder;
 use orders::Payload;
+use plan::plan;
 use plan::table::ListTable;
+use shelves::Shelf;
 
 impl<'m, K: KeyOrder, P: Payload> Index<'m, K, P> {
     // An index of no lists over lent memory, which stays as it is.
@@ -29,6 +32,23 @@ impl<'m, K: KeyOrder, P: Payload> Index<'m, K, P> {
             table: ListTable::empty(),
             layout: empty(),
         }
+    }
+
+    // Takes the lists of a shelf in the place of those it held, or refuses. Every question is asked before anything is
+    // written.
+    pub fn build<S: Shelf<Key = K, Payload = P>>(&mut self, shelf: &S) -> Result<(), Fault>
+        ensures answer { λ r. ⌜ r ≡ unless (buildFault order (keyTree (meaning (now (shelf .entry)))) (sizesOf (machineOf (now (self .entry))))) tt ⌝ }
+        ensures after { λ _. ⌜ machineOf (now (self .exit)) ≡ afterBuild order (machineOf (now (self .entry))) (meaning (now (shelf .entry))) ⌝ }
+    {
+        let table = plan(shelf)?;
+        let keys = self.memory.keys.len();
+        let rows = self.memory.rows.len();
+        let payloads = self.memory.payloads.len();
+        table.ask_memory(keys, rows, payloads)?;
+        self.memory.lay_down(shelf, &table);
+        self.table = table;
+        self.layout = of_shelf(shelf);
+        Ok(())
     }
 
     // Back to no lists. The memory stays as it is.

@@ -14,6 +14,7 @@ use orders::Payload;
 use plan::table::ListTable;
 
 pub mod calls;
+mod laid;
 mod payloads;
 
 // The memory that the server lends: for keys, for rows and for payloads.
