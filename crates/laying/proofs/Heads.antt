@@ -8,7 +8,7 @@ use native.Mathlib.Nat.{zero-add}
 use native.Mathlib.Numerals.{one-add}
 use native.Mathlib.Omega.{arith}
 use lib.Dec.{eqb, leb}
-use lib.ListN.{length, getD, take, drop}
+use lib.ListN.{length, getD, drop}
 use Rattle.std.proofs.shelf.Tests.{cases-lt, eq-eqb, ne-eqb, eqb-true, lt-leb}
 use Rattle.std.specs.Finite.{nth}
 use Rattle.std.specs.Orderings.{isLt, isLe}
@@ -18,7 +18,7 @@ use Rattle.std.specs.declared.option.Option.{Option}
 use Rattle.std.specs.declared.option.Option.the-variants.{Some, None}
 use Rattle.std.specs.shelf.Lists.{kept-by}
 use Rattle.orders.specs.Laws.{LawfulOrder}
-use Rattle.orders.specs.Places.{bit, count}
+use Rattle.orders.specs.Places.{bit}
 use Rattle.cascade.specs.Lists.{Low, Sorted}
 use Rattle.cascade.specs.Rows.{tally}
 use Rattle.cascade.specs.Theorems.{before, partOf}

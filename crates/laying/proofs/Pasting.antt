@@ -1,6 +1,6 @@
 -- Payloads laid down one list after the other.
 use mathlib.Core.Path.{_≡_, refl, sym, ap, _∙_}
-use mathlib.Core.List.{List, [], _∷_, _++_, map}
+use mathlib.Core.List.{List, [], _∷_, _++_}
 use Prim.Native.Nat.{ℕ, zero, suc, _+_, _<_, _≤_}
 use native.Mathlib.Nat.{suc-add}
 use native.Mathlib.Omega.{arith}
@@ -20,7 +20,7 @@ use Rattle.laying.proofs.Reading.{nth-found, keys-at, length-keyTree}
 use Rattle.laying.specs.Laying.{payloadsAt}
 
 -- a list written behind what has been written so far
-pub paste-behind : {X : Type 0} (front memory xs : List X) (at n : ℕ) → length front ≡ at → n ≡ length xs
+paste-behind : {X : Type 0} (front memory xs : List X) (at n : ℕ) → length front ≡ at → n ≡ length xs
     → paste (front ++ drop at memory) at xs n ≡ (front ++ xs) ++ drop (at + n) memory
 paste-behind front memory xs at n e m =
     paste-all (front ++ drop at memory) at xs n m
@@ -29,7 +29,7 @@ paste-behind front memory xs at n e m =
     ∙ sym (append-assoc front xs (drop (at + n) memory))
 
 module _ {K P : Type 0} where
-  pub payloads-more : (bs : List (Branch K P)) (v : ℕ) → v < length bs → payloadsLaid (take (v + 1) bs) ≡ payloadsLaid (take v bs) ++ payloadsAt bs v
+  payloads-more : (bs : List (Branch K P)) (v : ℕ) → v < length bs → payloadsLaid (take (v + 1) bs) ≡ payloadsLaid (take v bs) ++ payloadsAt bs v
   payloads-more [] v h = absurd (omega arith)
   payloads-more (b ∷ bs) zero h = append-nil (payloadsOf (b .entries))
   payloads-more (b ∷ bs) (suc v) h =
@@ -37,7 +37,7 @@ module _ {K P : Type 0} where
       ∙ ap (λ zs. payloadsOf (b .entries) ++ zs) (payloads-more bs v (omega arith))
       ∙ sym (append-assoc (payloadsOf (b .entries)) (payloadsLaid (take v bs)) (payloadsAt bs v))
 
-  pub length-payloads : (bs : List (Branch K P)) (v : ℕ) → length (payloadsLaid (take v bs)) ≡ allKeys (take v (keyTree bs))
+  length-payloads : (bs : List (Branch K P)) (v : ℕ) → length (payloadsLaid (take v bs)) ≡ allKeys (take v (keyTree bs))
   length-payloads bs zero = refl
   length-payloads [] (suc v) = refl
   length-payloads (b ∷ bs) (suc v) =

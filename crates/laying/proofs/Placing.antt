@@ -36,9 +36,9 @@ run-in f long (g ∷ gs) (suc w) rest h =
     let all = f g ++ joinedLists (map f gs) in
     ap (λ (n : ℕ). take (length (getD gs w [])) (drop n (all ++ rest))) s
     ∙ ap (take (length (getD gs w []))) (
-      sym (drop-drop (sumBy length (take w gs)) (length g) (all ++ rest))
-      ∙ ap (λ zs. drop (sumBy length (take w gs)) (drop (length g) zs)) (append-assoc (f g) (joinedLists (map f gs)) rest)
-      ∙ ap (drop (sumBy length (take w gs))) (drop-at (f g) (joinedLists (map f gs) ++ rest) (length g) (long g))
+    sym (drop-drop (sumBy length (take w gs)) (length g) (all ++ rest))
+    ∙ ap (λ zs. drop (sumBy length (take w gs)) (drop (length g) zs)) (append-assoc (f g) (joinedLists (map f gs)) rest)
+    ∙ ap (drop (sumBy length (take w gs))) (drop-at (f g) (joinedLists (map f gs) ++ rest) (length g) (long g))
     )
     ∙ run-in f long gs w rest (omega arith)
 

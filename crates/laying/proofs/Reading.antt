@@ -3,8 +3,8 @@ use mathlib.Core.Path.{_≡_, refl, sym, ap, _∙_}
 use mathlib.Core.List.{List, [], _∷_, map}
 use Prim.Native.Nat.{ℕ, zero, suc, _+_, _*_, _<_, _≤_}
 use native.Mathlib.Omega.{arith}
-use lib.ListN.{length, getD, take, drop, length-map, length-take, length-drop}
-use Rattle.std.proofs.shelf.Counted.{length-map-counting, getD-map-counting}
+use lib.ListN.{length, getD, drop, length-map, length-take, length-drop}
+use Rattle.std.proofs.shelf.Counted.{getD-map-counting}
 use Rattle.std.proofs.shelf.Lists.{getD-take, getD-drop}
 use Rattle.std.proofs.shelf.Maps.{nth-getD, nth-past}
 use Rattle.std.specs.Finite.{nth}
@@ -25,7 +25,7 @@ use Rattle.plan.specs.declared.table.ListTable.{ListTable}
 use Rattle.laying.specs.Children.{noRun, runOf}
 use Rattle.laying.specs.Merging.{keysIn}
 
-pub nth-map : {X Y : Type 0} (f : X → Y) (xs : List X) (i : ℕ) → nth (map f xs) i ≡ mapped f (nth xs i)
+nth-map : {X Y : Type 0} (f : X → Y) (xs : List X) (i : ℕ) → nth (map f xs) i ≡ mapped f (nth xs i)
 nth-map f [] i = refl
 nth-map f (x ∷ xs) zero = refl
 nth-map f (x ∷ xs) (suc i) = nth-map f xs i
@@ -73,12 +73,6 @@ module _ {K : Type 0} (keys : List K) (run : ListRun) (k : ℕ) (within : run .s
       nth-past (samples (keysIn run keys)) k (omega arith)
 
 module _ {K : Type 0} (t : KeyTree K) (gs : List (List (Tagged K))) (table : ListTable) (tabled : Tabled t gs table) where
-  pub table-long : table .len ≤ length (table .runs)
-  table-long =
-      let e = sym (length-take (table .len) (table .runs)) ∙ ap length (tabled .runs) ∙ length-map-counting (runAt t gs) 0 (length t) in
-      let l = tabled .lists in
-      omega arith
-
   pub run-at : (v : ℕ) → v < length t → runOf (table .runs) v ≡ runAt t gs v
   run-at v h =
       let l = tabled .lists in

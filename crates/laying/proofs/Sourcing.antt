@@ -1,12 +1,12 @@
 -- The sources of an augmented list, where the lists behind it lie in memory.
-use mathlib.Core.Path.{_≡_, refl, sym, ap, subst, _∙_}
+use mathlib.Core.Path.{_≡_, sym, ap, _∙_}
 use mathlib.Core.List.{List, []}
 use mathlib.Core.Logic.{_⊎_, inl, inr}
-use Prim.Native.Nat.{ℕ, zero, suc, _+_, _-_, _*_, _<_, _≤_, _^_}
+use Prim.Native.Nat.{ℕ, zero, suc, _+_, _-_, _<_, _≤_}
 use native.Mathlib.Omega.{arith}
 use lib.ListN.{length, getD, take, drop}
 use Rattle.std.proofs.shelf.Lists.{drop-drop, take-take}
-use Rattle.std.proofs.shelf.Sums.{sumBy-more, sumBy-take-le, getD-le-sumBy}
+use Rattle.std.proofs.shelf.Sums.{sumBy-more, sumBy-take-le}
 use Rattle.std.proofs.shelf.Tests.{cases-lt}
 use Rattle.std.specs.shelf.Lists.{sumBy}
 use Rattle.std.specs.declared.cmp.Ordering.{Ordering}
@@ -77,13 +77,16 @@ module _ {K : Type 0} (order : K → K → Ordering) (laws : LawfulOrder order) 
               let o : runOf (table .runs) w .ordinal ≡ j = ap (λ (x : ListRun). x .ordinal) run ∙ b .4 in
               inr (w, omega arith, b .2, b .3, b .4, sym (ap (runOf cs) o) ∙ so .found w (b .1) (omega arith) (ap (λ (x : ListRun). x .parent) run ∙ b .3) ∙ run)
           | inr l ↦
-              inl (l, so .none j (λ w z m e o.
-                  let run = table-run w (omega arith) in
-                  let q : parentOf t w ≡ v = sym (ap (λ (x : ListRun). x .parent) run) ∙ e in
-                  let i : ordinal t w ≡ j = sym (ap (λ (x : ListRun). x .ordinal) run) ∙ o in
-                  let c = child-at t w z (omega arith) .1 in
-                  let len = ap (λ (u : ℕ). length (childrenOf t u)) q in
-                  omega arith))
+              inl (
+                l,
+                so .none j (λ w z m e o.
+                    let run = table-run w (omega arith) in
+                    let q : parentOf t w ≡ v = sym (ap (λ (x : ListRun). x .parent) run) ∙ e in
+                    let i : ordinal t w ≡ j = sym (ap (λ (x : ListRun). x .ordinal) run) ∙ o in
+                    let c = child-at t w z (omega arith) .1 in
+                    let len = ap (λ (u : ℕ). length (childrenOf t u)) q in
+                    omega arith),
+              )
         ]
 
     is : IsAugmented order t v (augmented order t v)

@@ -13,10 +13,9 @@ use Rattle.std.proofs.shelf.Lists.{drop-drop, getD-map}
 use Rattle.std.specs.Finite.{nth}
 use Rattle.std.specs.Iters.{counting}
 use Rattle.std.specs.declared.cmp.Ordering.{Ordering}
-use Rattle.std.specs.declared.option.Option.{Option}
 use Rattle.std.specs.declared.option.Option.the-variants.{Some, None}
 use Rattle.orders.specs.Laws.{LawfulOrder}
-use Rattle.orders.specs.Places.{bit, count}
+use Rattle.orders.specs.Places.{bit}
 use Rattle.cascade.specs.Rows.{tally, rowAt, rowsOf}
 use Rattle.cascade.specs.Theorems.{partOf}
 use Rattle.cascade.specs.Trees.{Tagged, keysOf}

@@ -17,12 +17,7 @@ use plan::table::ListTable;
 use shelves::Shelf;
 
 // Lays the keys and the rows of all lists down.
-pub fn lay_lists<S: Shelf>(
-    shelf: &S,
-    table: &ListTable,
-    keys: &mut [S::Key],
-    rows: &mut [Row],
-)
+pub fn lay_lists<S: Shelf>(shelf: &S, table: &ListTable, keys: &mut [S::Key], rows: &mut [Row])
     requires { ⌜ CanLay (Key·KeyOrder .order) (keyTree (meaning (now shelf))) (now table) (length (now keys)) (length (now rows)) (allKeys (keyTree (meaning (now shelf)))) ⌝ }
     ensures keys { λ _. ⌜ now (keys .exit) ≡ keysLaid (augmentedLists (Key·KeyOrder .order) (keyTree (meaning (now (shelf .entry))))) ++ drop (allAugmented (Key·KeyOrder .order) (keyTree (meaning (now (shelf .entry))))) (now (keys .entry)) ⌝ }
     ensures rows { λ _. ⌜ now (rows .exit) ≡ rowsLaid (augmentedLists (Key·KeyOrder .order) (keyTree (meaning (now (shelf .entry))))) ++ drop (allAugmented (Key·KeyOrder .order) (keyTree (meaning (now (shelf .entry)))) + length (keyTree (meaning (now (shelf .entry))))) (now (rows .entry)) ⌝ }

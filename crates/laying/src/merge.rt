@@ -31,7 +31,10 @@ pub fn merge<S: Shelf>(
     ensures keys { λ _. ⌜ now (keys .exit) ≡ paste (now (keys .entry)) start (keysOf (augmented (Key·KeyOrder .order) (keyTree (meaning (now (shelf .entry)))) list)) count ⌝ }
     ensures rows { λ _. ⌜ now (rows .exit) ≡ paste (now (rows .entry)) (start + list) (rowsOf (augmented (Key·KeyOrder .order) (keyTree (meaning (now (shelf .entry)))) list)) (count + 1) ⌝ }
 {
-    let mut row = Row { own: 0, children: [0; MOST_CHILDREN] };
+    let mut row = Row {
+        own: 0,
+        children: [0; MOST_CHILDREN],
+    };
     for p in 0..count {
         rows[start + list + p] = row;
         if let Some(head) = least(shelf, list, children, keys, &row) {

@@ -75,7 +75,11 @@ fn head<S: Shelf>(
     if source == 0 {
         own_key(shelf, list, row.own as usize)
     } else {
-        sample(keys, children[source - 1], row.children[source - 1] as usize)
+        sample(
+            keys,
+            children[source - 1],
+            row.children[source - 1] as usize,
+        )
     }
 }
 

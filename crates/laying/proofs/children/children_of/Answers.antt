@@ -17,9 +17,10 @@ loop-w-again c =
     let Goal : List ListRun → Type 0 = λ xs. ChildRuns (table .runs) (w + 1) (c .args .list) xs × (length xs ≡ 4) in
     elim (c .if-run-list .came) [
       | then-run-list way ↦
-          subst Goal (sym (way .children-is))
-          (child-put (table .runs) (table .len) w (c .args .list) cs (omega arith) (c .loop-w-test .taken) (c .loop-w .inv .0) (c .pre .0) (c .loop-w .inv .1) (way .if-run-list .taken),
-          length-set cs (runOf (table .runs) w .ordinal) (runOf (table .runs) w) ∙ c .loop-w .inv .1)
+          subst Goal (sym (way .children-is)) (
+            child-put (table .runs) (table .len) w (c .args .list) cs (omega arith) (c .loop-w-test .taken) (c .loop-w .inv .0) (c .pre .0) (c .loop-w .inv .1) (way .if-run-list .taken),
+            length-set cs (runOf (table .runs) w .ordinal) (runOf (table .runs) w) ∙ c .loop-w .inv .1,
+          )
       | else-run-list way ↦
           subst Goal (sym (way .children-is))
           (child-skip (table .runs) (table .len) w (c .args .list) cs (omega arith) (c .loop-w-test .taken) (c .loop-w .inv .0) (way .if-run-list .left), c .loop-w .inv .1)

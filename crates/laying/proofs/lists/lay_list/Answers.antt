@@ -1,5 +1,5 @@
-use mathlib.Core.Path.{_≡_, refl, sym, ap, ap₂, subst, _∙_}
-use Prim.Native.Nat.{ℕ, _+_, _<_, _≤_}
+use mathlib.Core.Path.{refl, sym, ap, subst, _∙_}
+use Prim.Native.Nat.{ℕ, _+_, _<_}
 use native.Mathlib.Omega.{arith}
 use lib.ListN.{length}
 use lib.Seq.{paste}
@@ -8,7 +8,6 @@ use Rattle.cascade.specs.Trees.{keysOf, keysAt, allKeys, augmented}
 use Rattle.layout.specs.KeyTrees.{keyTree}
 use Rattle.plan.specs.declared.table.ListRun.{ListRun}
 use Rattle.laying.proofs.Sourcing.{start-more, start-all, table-run, ordinals, mergeable}
-use Rattle.laying.specs.Laying.{startOf}
 use Rattle.laying.specs.Merging.{Mergeable}
 use Rattle.laying.proofs.lists.lay_list.Needs as need
 

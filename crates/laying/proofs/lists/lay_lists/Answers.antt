@@ -1,6 +1,6 @@
-use mathlib.Core.Path.{_≡_, refl, sym, ap, _∙_}
-use mathlib.Core.List.{List, _++_}
-use Prim.Native.Nat.{ℕ, suc, _+_, _-_, _<_, _≤_}
+use mathlib.Core.Path.{_≡_, sym, ap, _∙_}
+use mathlib.Core.List.{_++_}
+use Prim.Native.Nat.{ℕ, suc, _+_, _-_}
 use native.Mathlib.Omega.{arith}
 use lib.ListN.{length, take, drop, length-map}
 use Rattle.std.proofs.shelf.Counted.{length-map-counting}
@@ -24,9 +24,10 @@ loop-v-holds g c =
     let n = c .args .table .now .len in
     let lists = c .pre .tabled .lists in
     let l = length-augmentedFrom order 0 t in
-    let e : startOf order t n ≡ allAugmented order t = ap (sumBy length) (take-all n gs (omega arith)) in
-    (none-laid keysOf gs (c .args .keys .now) n (startOf order t n) (allAugmented order t) (omega arith) e,
-    none-laid rowsOf gs (c .args .rows .now) n (startOf order t n + n) (allAugmented order t + length t) (omega arith) (omega arith))
+    let e : startOf order t n ≡ allAugmented order t = ap (sumBy length) (take-all n gs (omega arith)) in (
+      none-laid keysOf gs (c .args .keys .now) n (startOf order t n) (allAugmented order t) (omega arith) e,
+      none-laid rowsOf gs (c .args .rows .now) n (startOf order t n + n) (allAugmented order t + length t) (omega arith) (omega arith),
+    )
 
 pub lay-list-requires : need.lay-list-requires
 lay-list-requires g c κs =
@@ -70,13 +71,14 @@ loop-v-again g c =
     let all = start-all order t v in
     let xs = augmented order t u in
     let keys : length xs ≡ length (keysOf xs) = sym (length-map xs (λ x. x .1)) in
-    let rows : length (rowsOf xs) ≡ suc (length xs) = length-map-counting (λ p. rowAt p xs) 0 (suc (length xs)) in
-    (c .lay-list .ensures .keys
-    ∙ one-laid keysOf gs (c .args .keys .now) (c .loop-v .keys) (drop (allAugmented order t) (c .args .keys .now)) u v (startOf order t u) (startOf order t v) (length xs)
-    e (omega arith) more keys (omega arith) (c .loop-v .inv .0),
-    c .lay-list .ensures .rows
-    ∙ one-laid rowsOf gs (c .args .rows .now) (c .loop-v .rows) (drop (allAugmented order t + length t) (c .args .rows .now)) u v (startOf order t u + u) (startOf order t v + v) (length xs + 1)
-    e (omega arith) (omega arith) (omega arith) (omega arith) (c .loop-v .inv .1))
+    let rows : length (rowsOf xs) ≡ suc (length xs) = length-map-counting (λ p. rowAt p xs) 0 (suc (length xs)) in (
+      c .lay-list .ensures .keys
+          ∙ one-laid keysOf gs (c .args .keys .now) (c .loop-v .keys) (drop (allAugmented order t) (c .args .keys .now)) u v (startOf order t u) (startOf order t v) (length xs)
+          e (omega arith) more keys (omega arith) (c .loop-v .inv .0),
+      c .lay-list .ensures .rows
+          ∙ one-laid rowsOf gs (c .args .rows .now) (c .loop-v .rows) (drop (allAugmented order t + length t) (c .args .rows .now)) u v (startOf order t u + u) (startOf order t v + v) (length xs + 1)
+          e (omega arith) (omega arith) (omega arith) (omega arith) (c .loop-v .inv .1),
+    )
 
 pub returns : need.returns
 returns g c =

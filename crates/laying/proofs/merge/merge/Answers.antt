@@ -1,5 +1,5 @@
-use mathlib.Core.Path.{_≡_, refl, sym, ap, _∙_}
-use Prim.Native.Nat.{ℕ, _+_, _<_, _≤_}
+use mathlib.Core.Path.{_≡_, refl, ap, _∙_}
+use Prim.Native.Nat.{ℕ, _+_, _<_}
 use native.Mathlib.Omega.{arith}
 use lib.ListN.{length}
 use lib.Seq.{paste}
@@ -23,11 +23,12 @@ counted-row-requires g c κs =
     let xs = augmented order t (c .args .list) in
     let whole = c .pre .whole in
     let inside : c .loop-p .p < length xs = omega arith in
-    let y : ℕ × g .S·Key .Denot = c .in-Some .head in
-    (source-known order (g .Key·KeyOrder·met .lawful) xs (keysAt t (c .args .list)) (c .args .children .now) (c .args .start) (c .args .keys .now) (c .pre .mergeable)
-    (c .loop-p .p) inside (c .loop-p .keys) (c .loop-p .row) (c .loop-p .inv .0) (c .loop-p .inv .2) y (c .in-Some .ensures tt),
-    tally-fits order (g .Key·KeyOrder·met .lawful) xs (keysAt t (c .args .list)) (c .args .children .now) (c .args .start) (c .args .keys .now) (c .pre .mergeable)
-    (c .loop-p .p) inside (c .loop-p .keys) (c .loop-p .row) (c .loop-p .inv .0) (c .loop-p .inv .2) y (c .in-Some .ensures tt))
+    let y : ℕ × g .S·Key .Denot = c .in-Some .head in (
+      source-known order (g .Key·KeyOrder·met .lawful) xs (keysAt t (c .args .list)) (c .args .children .now) (c .args .start) (c .args .keys .now) (c .pre .mergeable)
+          (c .loop-p .p) inside (c .loop-p .keys) (c .loop-p .row) (c .loop-p .inv .0) (c .loop-p .inv .2) y (c .in-Some .ensures tt),
+      tally-fits order (g .Key·KeyOrder·met .lawful) xs (keysAt t (c .args .list)) (c .args .children .now) (c .args .start) (c .args .keys .now) (c .pre .mergeable)
+          (c .loop-p .p) inside (c .loop-p .keys) (c .loop-p .row) (c .loop-p .inv .0) (c .loop-p .inv .2) y (c .in-Some .ensures tt),
+    )
 
 pub loop-p-again : need.loop-p-again
 loop-p-again g c =

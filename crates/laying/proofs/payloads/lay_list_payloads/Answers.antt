@@ -1,6 +1,6 @@
-use mathlib.Core.Path.{_≡_, sym, ap, _∙_}
+use mathlib.Core.Path.{sym, _∙_}
 use native.Mathlib.Omega.{arith}
-use lib.ListN.{length, length-map}
+use lib.ListN.{length-map}
 use Rattle.std.proofs.shelf.Edits.{paste-none}
 use Rattle.std.specs.Finite.{nth}
 use Rattle.shelves.specs.Meaning.{entriesOf}
