@@ -3,8 +3,8 @@ use mathlib.Core.Path.{_≡_, sym, ap, _∙_}
 use mathlib.Core.List.{List, [], _∷_, _++_}
 use Prim.Native.Nat.{ℕ, _+_, _-_, _<_, _≤_}
 use native.Mathlib.Omega.{arith}
-use lib.ListN.{length, getD, set, drop}
-use Rattle.std.proofs.shelf.Lists.{append-nil, append-assoc, length-set, length-push, getD-set-same, drop-more, drop-all, drop-set-lt}
+use lib.ListN.{length, getD, set, take, drop}
+use Rattle.std.proofs.shelf.Lists.{append-nil, append-assoc, length-set, length-drop, take-all, length-push, getD-set-same, drop-more, drop-all, drop-set-lt}
 use Rattle.cascade.specs.Trees.{KeyTree, parentOf, ParentsSmaller, path}
 use Rattle.cascade.proofs.Walking.{path-step}
 use Rattle.walking.proofs.Paths.{path-ends}
@@ -62,8 +62,10 @@ module _ {K : Type 0} (t : KeyTree K) (smaller : ParentsSmaller t) (end : ℕ) w
                 ∙ ap (λ p. path t up ++ p) (sym (drop-set-lt (from - 1 + 1) lists (from - 1) up (omega arith)));
           }
 
-    pub climbed-all : list ≡ 0 → drop from lists ≡ path t end
-    climbed-all e = behind ∙ ap (λ v. v ∷ drop (from + 1) lists) e ∙ sym (was .whole ∙ ap (λ v. path t v ++ drop (from + 1) lists) e)
+    pub climbed-all : list ≡ 0 → take (9 - from) (drop from lists) ≡ path t end
+    climbed-all e =
+        let s = was .sized in
+        take-all (9 - from) (drop from lists) (omega (arith, length-drop from lists)) ∙ behind ∙ ap (λ v. v ∷ drop (from + 1) lists) e ∙ sym (was .whole ∙ ap (λ v. path t v ++ drop (from + 1) lists) e)
 
   pub climbed-none : end < length t → length (path t end) ≤ 9 → (lists : List ℕ) → length lists ≡ 9 → Climbed t end end 8 (set lists 8 end)
   climbed-none there short lists n =

@@ -8,3 +8,5 @@ mod Climbing
 mod Filling
 mod Gathering
 mod Descending
+mod Joining
+mod Offering

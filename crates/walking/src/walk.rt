@@ -1,12 +1,13 @@
 // Lookups along a path.
 ghost use mathlib.Core.Path.{_≡_};
-ghost use Prim.Native.Nat.{ℕ, _<_, _≤_};
+ghost use Prim.Native.Nat.{ℕ, _-_, _<_, _≤_};
 ghost use denote.Ref.{now};
-ghost use lib.ListN.{length, drop};
+ghost use lib.ListN.{length, take, drop};
 ghost use Rattle.cascade.specs.Trees.{KeyTree, keysOf, ownSource, parentOf, path, augmented};
 ghost use Rattle.cascade.specs.Rows.{rowAt, tally};
 ghost use Rattle.cascade.specs.Walks.{rootArrival, edgeArrival};
-ghost use Rattle.walking.specs.Walked.{LaidIn, WalkableIn, WhereLaid, lookedUp};
+ghost use Rattle.plan.specs.Laid.{Laid};
+ghost use Rattle.walking.specs.Walked.{Walkable, LaidIn, WalkableIn, WhereLaid, lookedUp};
 ghost use Rattle.walking.specs.Reached.{Placed, Below, Along};
 use crate::search::edge_step;
 use crate::search::root_search;
@@ -73,10 +74,10 @@ impl<'a, K: KeyOrder> Cascade<'a, K> {
     }
 
     // The lists from the root to a list: they stand from a place on to the end of an array.
-    fn path_to(self, end: usize) -> ([usize; MOST_STOPS], usize)
+    pub(crate) fn path_to(self, end: usize) -> ([usize; MOST_STOPS], usize)
         requires { ⌜ WalkableIn order self end ⌝ }
         ensures { λ r. ⌜ r .1 ≤ 9 ⌝ }
-        ensures { λ r. ⌜ WhereLaid order (self .entry) end (λ t. drop (r .1) (r .0) ≡ path t end) ⌝ }
+        ensures { λ r. ⌜ WhereLaid order (self .entry) end (λ t. take (9 - r .1) (drop (r .1) (r .0)) ≡ path t end) ⌝ }
     {
         let mut lists = [0; MOST_STOPS];
         let mut from = MOST_STOPS - 1;
@@ -91,7 +92,7 @@ impl<'a, K: KeyOrder> Cascade<'a, K> {
     }
 
     // A lookup along the lists of a path.
-    fn walk(self, lists: &[usize], key: &K, side: Side) -> Lookup
+    pub(crate) fn walk(self, lists: &[usize], key: &K, side: Side) -> Lookup
         requires { ⌜ Along order self (now lists) ⌝ }
         ensures { λ r. ⌜ ((t : KeyTree K) (end : ℕ) → LaidIn order (self .entry) t → end < length t → now (lists .entry) ≡ path t end → r ≡ lookedUp order t end side (now (key .entry))) ⌝ }
     {
@@ -116,5 +117,14 @@ impl<'a, K: KeyOrder> Cascade<'a, K> {
             used: lists.len(),
             comparisons,
         }
+    }
+
+    // A lookup: from the root to list `end`, each list with the place of the key in it.
+    pub fn look_up(self, end: usize, key: &K, side: Side) -> Lookup
+        requires { ⌜ Walkable order (now (self .table)) (now (self .keys)) (now (self .rows)) end ⌝ }
+        ensures { λ r. ⌜ ((t : KeyTree K) → Laid order t (now (self .entry .table)) (now (self .entry .keys)) (now (self .entry .rows)) → end < length t → r ≡ lookedUp order t end side (now (key .entry))) ⌝ }
+    {
+        let (lists, from) = self.path_to(end);
+        self.walk(&lists[from..MOST_STOPS], key, side)
     }
 }

@@ -19,9 +19,9 @@ returns-then-not-is-passed g c =
     let n = c .loop-n .n in
     let k : 3 - n ≡ suc (2 - n) = omega arith in
     sym (
-      c .loop-n .inv ∙ ap (stepped f (c .args .keys .now) (4 * c .args .samples) n) k
-          ∙ stepped-stop f (c .args .keys .now) (4 * c .args .samples) n (2 - n) (c .index-keys-from .result) (c .if-from-n .left) (c .index-keys-from .is)
-          (sym (c .is-passed .ensures) ∙ c .if-not-is-passed .taken)
+    c .loop-n .inv ∙ ap (stepped f (c .args .keys .now) (4 * c .args .samples) n) k
+    ∙ stepped-stop f (c .args .keys .now) (4 * c .args .samples) n (2 - n) (c .index-keys-from .result) (c .if-from-n .left) (c .index-keys-from .is)
+    (sym (c .is-passed .ensures) ∙ c .if-not-is-passed .taken)
     )
 
 pub loop-n-again : need.loop-n-again
