@@ -4,3 +4,9 @@ mod Tagging
 mod Runs
 mod Lying
 mod Paths
+mod Climbing
+mod Filling
+mod Gathering
+mod Descending
+mod Joining
+mod Offering

@@ -93,19 +93,23 @@ module _ {K : Type 0} (order : K → K → Ordering) (t : KeyTree K) (table : Li
         let s : getD (table .runs) v noRun .start ≡ sumBy length (take v (augmentedLists order t)) + v * 0 = omega (arith, start-is) in
         ap₂ (λ m k. take m (drop k keys)) n s ∙ laid-part keysOf 0 keys-sized (augmentedLists order t) keys key-front v h
 
+  pub root-small : 0 < length t → length (augmented order t 0) ≤ 53333
+  root-small l = omega (arith, length-is 0 l, run-small 0 l)
+
+  module _ (v : ℕ) (l : v < length t) where
     module _ (p : ℕ) (k : p ≤ length (augmented order t v)) where
       pub row-small : getD (table .runs) v noRun .start + v + p ≤ 60000
-      row-small = omega (arith, run-small, length-is, list-few)
+      row-small = omega (arith, run-small v l, length-is v l, list-few v l)
 
       pub row-there : getD (table .runs) v noRun .start + v + p < length rows
       row-there =
           let h : v < length (augmentedLists order t) = rw lists l in
-          omega (arith, start-is, laid-ends rowsOf 1 rows-sized (augmentedLists order t) rows row-front v h, rows-sized (augmented order t v))
+          omega (arith, start-is v l, laid-ends rowsOf 1 rows-sized (augmentedLists order t) rows row-front v h, rows-sized (augmented order t v))
 
       pub row-is : getD rows (getD (table .runs) v noRun .start + v + p) noRow ≡ rowAt p (augmented order t v)
       row-is =
           let h : v < length (augmentedLists order t) = rw lists l in
-          let s : getD (table .runs) v noRun .start + v ≡ sumBy length (take v (augmentedLists order t)) + v * 1 = omega (arith, start-is) in
+          let s : getD (table .runs) v noRun .start + v ≡ sumBy length (take v (augmentedLists order t)) + v * 1 = omega (arith, start-is v l) in
           let n : p < length (rowsOf (augmented order t v)) = omega (arith, rows-sized (augmented order t v)) in
           ap (λ m. getD rows (m + p) noRow) s
           ∙ sym (getD-drop (sumBy length (take v (augmentedLists order t)) + v * 1) rows p noRow)

@@ -1,6 +1,6 @@
 -- What walks over laid-down lists answer.
 use mathlib.Core.List.{List, map}
-use Prim.Native.Nat.{ℕ, _+_, _-_, _<_}
+use Prim.Native.Nat.{ℕ, _+_, _-_, _<_, _≤_}
 use denote.Ref.{now}
 use lib.ListN.{length, take, drop}
 use Rattle.std.specs.shelf.Lists.{folded}
@@ -27,6 +27,13 @@ pub record Walkable {K : Type 0} (order : K → K → Ordering) (table : ListTab
   pub laid : Laid order tree table keys rows
   pub there : end < length tree
 
+-- and payload memory has a place for each of their entries
+pub record Offerable {K : Type 0} (order : K → K → Ordering) (table : ListTable) (keys : List K) (rows : List Row) (payloads end : ℕ) : Type 0 where
+  pub tree : KeyTree K
+  pub laid : Laid order tree table keys rows
+  pub there : end < length tree
+  pub held : allKeys tree ≤ payloads
+
 module _ {K : Type 0} (order : K → K → Ordering) (c : Cascade K) where
   -- the lists t lie in the memory that a walk reads
   abbrev pub LaidIn : KeyTree K → Type 0
@@ -34,6 +41,9 @@ module _ {K : Type 0} (order : K → K → Ordering) (c : Cascade K) where
 
   abbrev pub WalkableIn : ℕ → Type 0
   WalkableIn end = Walkable order (now (c .table)) (now (c .keys)) (now (c .rows)) end
+
+  abbrev pub OfferableIn : (payloads end : ℕ) → Type 0
+  OfferableIn payloads end = Offerable order (now (c .table)) (now (c .keys)) (now (c .rows)) payloads end
 
   -- P of all lists that lie there and of which one is list `end`
   abbrev pub WhereLaid : (end : ℕ) → (KeyTree K → Type 0) → Type 0

@@ -1,3 +1,5 @@
 // Walks over the lists of an index as they lie in memory: lookups, offers and ranges.
+pub mod join;
+pub mod offer;
 pub mod search;
 pub mod walk;
