@@ -13,13 +13,13 @@ returns-in-Ok c =
     let made = c .in-Ok .ensures tt in
     let text : textOf (c .in-Ok .key) ≡ drop 4 body = made .1 ∙ e in
     let bits = c .number-in-bits .ensures in
-    let s = entry-said (c .args .at) body (c .if-body-lt5 .left) (c .if-body-gt36 .left) (ap keyFault (sym e) ∙ made .0) in
+    let s = entry-said (c .args .at) body (omega arith) (omega arith) (ap keyFault (sym e) ∙ made .0) in
     cc
 
 pub returns-in-Err : need.returns-in-Err
 returns-in-Err c =
     let body = c .args .body .now in
     let e = between-to-end body 4 (length body) (omega arith) in
-    let s = entry-refused (c .args .at) body (c .in-Err .fault) (c .if-body-lt5 .left) (c .if-body-gt36 .left) (ap keyFault (sym e) ∙ c .in-Err .ensures tt) in
+    let s = entry-refused (c .args .at) body (c .in-Err .fault) (omega arith) (omega arith) (ap keyFault (sym e) ∙ c .in-Err .ensures tt) in
     let f = c .with-second .ensures in
     cc

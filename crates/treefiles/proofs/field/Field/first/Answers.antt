@@ -15,6 +15,6 @@ returns c =
     let len = getD bytes 1 0 * 256 + getD bytes 2 0 in
     let three : 3 ≤ length bytes = search needs in
     let e = between-to-end bytes 3 (length bytes) (omega arith) in
-    let l : len ≤ length (drop 3 bytes) = subst (λ (rest : List ℕ). len ≤ length rest) e (c .if-rest-len .left) in
+    let l : len ≤ length (drop 3 bytes) = subst (λ (rest : List ℕ). len ≤ length rest) e (omega arith) in
     let z : len - 0 ≡ len = omega arith in
     ap₂ (λ (n : ℕ) (rest : List ℕ). Some (getD bytes 0 0, take n rest)) z e ∙ sym (field-first bytes three l)
