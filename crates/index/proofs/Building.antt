@@ -1,8 +1,8 @@
 -- A build: the facts of the new index, and its machine. Assumes nothing.
 use mathlib.Core.Path.{_≡_, refl, sym, ap, ap₂, _∙_}
-use mathlib.Core.Bool.{true}
+use mathlib.Core.Bool.{Bool, true, false}
 use mathlib.Core.List.{List, [], _∷_, _++_, map}
-use Prim.Native.Nat.{ℕ, suc, _+_, _-_, _<_}
+use Prim.Native.Nat.{ℕ, suc, _+_, _<_, _≤_}
 use native.Mathlib.Omega.{arith}
 use lib.ListN.{length, take, drop, length-append}
 use lib.Seq.{take-append-seam}
@@ -24,7 +24,13 @@ use Rattle.layout.specs.KeyTrees.{keyTree, allInOrder}
 use Rattle.plan.specs.Table.{Tabled}
 use Rattle.plan.specs.declared.table.ListTable.{ListTable}
 use Rattle.register.specs.Memory.{joinedLists, keysLaid, rowsLaid, payloadsLaid}
-use Rattle.register.specs.Questions.{buildFault}
+use lib.Dec.{leb}
+use Rattle.std.proofs.shelf.Tests.{leb-true}
+use Rattle.std.specs.declared.result.Result.{Result}
+use Rattle.std.specs.declared.result.Result.the-variants.{Ok, Err}
+use Rattle.faults.specs.Refusals.{fault}
+use Rattle.faults.specs.declared.Reason.the-variants.{IndexMemoryShort}
+use Rattle.register.specs.Questions.{Sizes, ask, orElse, unless, buildFault, listsFault, memoryFault}
 use Rattle.register.specs.Register.{Register}
 use Rattle.register.specs.Shape.{Shaped}
 use Rattle.index.specs.Held.{dressed}
@@ -99,3 +105,32 @@ module _ {K P : Type 0} (order : K → K → Ordering) (bs : List (Branch K P)) 
 -- a refused build
 pub unbuilt : {K P : Type 0} (order : K → K → Ordering) (m : Machine K P) (bs : List (Branch K P)) (f : Fault) → buildFault order (keyTree bs) (sizesOf m) ≡ Some f → m ≡ afterBuild order m bs
 unbuilt order m bs f e = sym (ap (λ (o : Option Fault). granted o m (built order m bs)) e)
+
+-- the questions of a build: those about the lists, then those about the memories
+module _ {K : Type 0} (order : K → K → Ordering) (t : KeyTree K) (sizes : Sizes) where
+  pub all-granted : listsFault order t ≡ None → memoryFault order t sizes ≡ None → buildFault order t sizes ≡ None
+  all-granted a b = rw (a, b)
+
+  pub memory-refused : (f : Fault) → listsFault order t ≡ None → memoryFault order t sizes ≡ Some f → buildFault order t sizes ≡ Some f
+  memory-refused f a b = rw (a, b)
+
+  -- what a granted question about the memories says
+  pub room : memoryFault order t sizes ≡ None → (allAugmented order t ≤ sizes .keys) × (allAugmented order t + length t ≤ sizes .rows) × (allKeys t ≤ sizes .payloads)
+  room e = go (leb (allAugmented order t) (sizes .keys)) (leb (allAugmented order t + length t) (sizes .rows)) (leb (allKeys t) (sizes .payloads)) refl refl refl e
+    where
+      go : (a b c : Bool) → leb (allAugmented order t) (sizes .keys) ≡ a → leb (allAugmented order t + length t) (sizes .rows) ≡ b → leb (allKeys t) (sizes .payloads) ≡ c
+          → orElse (ask a (fault IndexMemoryShort 1 (allAugmented order t))) (orElse (ask b (fault IndexMemoryShort 2 (allAugmented order t + length t))) (ask c (fault IndexMemoryShort 3 (allKeys t)))) ≡ None
+          → (allAugmented order t ≤ sizes .keys) × (allAugmented order t + length t ≤ sizes .rows) × (allKeys t ≤ sizes .payloads)
+      go true true true p q r h = (leb-true _ _ p, leb-true _ _ q, leb-true _ _ r)
+      go true true false p q r h = let z : _≡_ {A = ℕ} 0 1 = cc in absurd (omega arith)
+      go true false c p q r h = let z : _≡_ {A = ℕ} 0 1 = cc in absurd (omega arith)
+      go false b c p q r h = let z : _≡_ {A = ℕ} 0 1 = cc in absurd (omega arith)
+
+-- from answers to questions
+pub unless-ok : (o : Option Fault) → _≡_ {A = Result (Unit {0}) Fault} (Ok tt) (unless o tt) → o ≡ None
+unless-ok None e = refl
+unless-ok (Some f) e = let z : _≡_ {A = ℕ} 0 1 = cc in absurd (omega arith)
+
+pub unless-err : (o : Option Fault) (f : Fault) → _≡_ {A = Result (Unit {0}) Fault} (Err f) (unless o tt) → o ≡ Some f
+unless-err None f e = let z : _≡_ {A = ℕ} 0 1 = cc in absurd (omega arith)
+unless-err (Some g) f e = cc

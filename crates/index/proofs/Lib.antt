@@ -5,3 +5,4 @@ pub mod Amending
 pub mod Answering
 pub mod Looking
 pub mod Building
+pub mod Walked

@@ -2,6 +2,10 @@
 ghost use mathlib.Core.Path.{_≡_};
 ghost use Rattle.register.specs.Questions.{unless, buildFault, placeFault};
 ghost use Rattle.layout.specs.KeyTrees.{keyTree};
+ghost use Rattle.std.specs.Vec.{made};
+ghost use Rattle.register.specs.Answers.{mapOk, lookupRead, offerRead};
+ghost use Rattle.register.specs.Register.{lookUpAnswer, offerAnswer};
+ghost use Rattle.index.specs.Counts.{LookupCounts, OfferCounts};
 ghost use Rattle.index.specs.Held.{machineOf};
 ghost use Rattle.index.specs.Machine.{Sound, sizesOf, blank, cleared, afterAmend, afterBuild};
 use crate::Index;
@@ -14,9 +18,13 @@ use layout::known;
 use layout::of_shelf;
 use orders::KeyOrder;
 use orders::Payload;
+use orders::side::Side;
 use plan::plan;
 use plan::table::ListTable;
+use register::answers::Lookup;
+use register::answers::Offer;
 use shelves::Shelf;
+use walking::walk::Cascade;
 
 impl<'m, K: KeyOrder, P: Payload> Index<'m, K, P> {
     // An index of no lists over lent memory, which stays as it is.
@@ -73,6 +81,40 @@ impl<'m, K: KeyOrder, P: Payload> Index<'m, K, P> {
         }
         self.memory.amend(run.first + place, by);
         Ok(())
+    }
+
+    // Where a key stands in each list from the root to an end list, or the refusal: no such list.
+    pub fn look_up(&self, list: usize, key: &K, side: Side) -> Result<Lookup, Fault>
+        ensures answer { λ r. ⌜ mapOk lookupRead r ≡ lookUpAnswer order (machineOf (now (self .entry)) .register) list side (now (key .entry)) ⌝ }
+        ensures counts { λ r. ⌜ made r (λ l. LookupCounts order (keyTree (machineOf (now (self .entry)) .register)) list side (now (key .entry)) (l .comparisons)) ⌝ }
+    {
+        if list >= self.table.len {
+            return Err(Fault::new(Reason::NoSuchList, list, 0));
+        }
+        known(&self.layout);
+        let cascade = Cascade {
+            table: &self.table,
+            keys: &self.memory.keys[..],
+            rows: &self.memory.rows[..],
+        };
+        Ok(cascade.look_up(list, key, side))
+    }
+
+    // All entries from the root to an end list whose key is the same as the given one, or the refusal: no such list.
+    pub fn offer(&self, list: usize, key: &K) -> Result<Offer<P>, Fault>
+        ensures answer { λ r. ⌜ mapOk offerRead r ≡ offerAnswer order neutral joined (machineOf (now (self .entry)) .register) list (now (key .entry)) ⌝ }
+        ensures counts { λ r. ⌜ made r (λ o. OfferCounts order (keyTree (machineOf (now (self .entry)) .register)) list (now (key .entry)) (o .comparisons)) ⌝ }
+    {
+        if list >= self.table.len {
+            return Err(Fault::new(Reason::NoSuchList, list, 0));
+        }
+        known(&self.layout);
+        let cascade = Cascade {
+            table: &self.table,
+            keys: &self.memory.keys[..],
+            rows: &self.memory.rows[..],
+        };
+        Ok(cascade.offer(&self.memory.payloads[..], list, key))
     }
 
     // What holds of every index.
