@@ -123,25 +123,4 @@ impl<'m, K: KeyOrder, P: Payload> Index<'m, K, P> {
     {
         known(&self.layout);
     }
-
-    // The whole key memory, as it is.
-    pub fn keys(&self) -> &[K]
-        ensures { λ r. ⌜ now r ≡ machineOf (now (self .entry)) .keys ⌝ }
-    {
-        &self.memory.keys[..]
-    }
-
-    // The whole row memory, as it is.
-    pub fn rows(&self) -> &[Row]
-        ensures { λ r. ⌜ now r ≡ machineOf (now (self .entry)) .rows ⌝ }
-    {
-        &self.memory.rows[..]
-    }
-
-    // The whole payload memory, as it is.
-    pub fn payloads(&self) -> &[P]
-        ensures { λ r. ⌜ now r ≡ machineOf (now (self .entry)) .payloads ⌝ }
-    {
-        &self.memory.payloads[..]
-    }
 }

@@ -16,6 +16,7 @@ use plan::table::ListTable;
 pub mod calls;
 mod laid;
 mod payloads;
+pub mod readers;
 
 // The memory that the server lends: for keys, for rows and for payloads.
 #[derive(Drop)]
