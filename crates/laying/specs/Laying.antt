@@ -1,4 +1,4 @@
--- When the lists of a tree can be laid down in memories of k keys, r rows and p payloads.
+-- When lists can be laid down, and where they lie.
 use mathlib.Core.Path.{_≡_}
 use mathlib.Core.Bool.{true}
 use mathlib.Core.List.{List}
@@ -14,6 +14,7 @@ use Rattle.register.specs.Shape.{Shaped}
 use Rattle.plan.specs.Table.{Tabled}
 use Rattle.plan.specs.declared.table.ListTable.{ListTable}
 
+-- the lists of a tree, with their table, in memories of k keys, r rows and p payloads
 pub record CanLay {K : Type 0} (order : K → K → Ordering) (t : KeyTree K) (table : ListTable) (k r p : ℕ) : Type 0 where
   pub shaped : Shaped t
   pub ordered : (v : ℕ) → v < length t → inOrder order (keysAt t v) ≡ true

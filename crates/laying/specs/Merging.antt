@@ -13,12 +13,13 @@ use Rattle.cascade.specs.Lists.{samples, Sorted}
 use Rattle.cascade.specs.Theorems.{before, partOf}
 use Rattle.cascade.specs.Trees.{Tagged}
 use Rattle.cascade.specs.declared.row.Row.{Row}
+use Rattle.register.specs.Limits.{mostChildren}
 use Rattle.plan.specs.declared.table.ListRun.{ListRun}
 use Rattle.laying.specs.Children.{runOf}
 
--- the own keys and the samples of four children
+-- the own keys, and the samples of each child
 abbrev pub sourceCount : ℕ
-sourceCount = 5
+sourceCount = suc mostChildren
 
 -- how much of a source a row counts
 abbrev pub takenOf : Row → ℕ → ℕ
@@ -66,6 +67,6 @@ module _ {K : Type 0} (order : K → K → Ordering) where
     pub room : start + length xs ≤ length keys
     pub within : RunsWithin children (length keys)
     pub sorted : Sorted (before order) xs
-    -- whatever is written in front of them
-    pub sources : (now : List K) → drop (start + length xs) now ≡ drop (start + length xs) keys → (s : ℕ) → s < sourceCount → sourceKeys own children now s ≡ partOf s xs
+    -- whatever is written in front of those in memory
+    pub sources : (written : List K) → drop (start + length xs) written ≡ drop (start + length xs) keys → (s : ℕ) → s < sourceCount → sourceKeys own children written s ≡ partOf s xs
     pub others : (s : ℕ) → sourceCount ≤ s → partOf s xs ≡ []

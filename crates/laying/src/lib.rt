@@ -1,6 +1,6 @@
 // Laying down what an index holds: the augmented lists of a shelf, their rows and the payloads of its lists, in lent
-// memory and with no memory of its own. It takes a number of steps in proportion to the keys of all augmented lists, the
-// entries of the shelf and, for each list, one pass over the list table.
+// memory and with no memory of its own. Each payload takes one question to the shelf, each key of an augmented list one
+// question and a look at one sample of each child, and each list one pass over the list table.
 ghost use mathlib.Core.Path.{_≡_};
 ghost use mathlib.Core.List.{_++_};
 ghost use Prim.Native.Nat.{_+_};

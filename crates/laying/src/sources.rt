@@ -1,4 +1,5 @@
-// The sources of an augmented list.
+// The sources of an augmented list: the list's own keys on the shelf, and the samples of its children in key memory.
+// Source 0 is the own keys, and source j + 1 the samples of the child with ordinal j.
 ghost use mathlib.Core.Path.{_≡_};
 ghost use Prim.Native.Nat.{_+_, _<_, _≤_, _^_};
 ghost use lib.ListN.{length};
@@ -13,8 +14,8 @@ use plan::table::ListRun;
 use register::limits::MOST_CHILDREN;
 use shelves::Shelf;
 
-// The own keys of a list and the samples of each child.
-const SOURCES: usize = 5;
+// The own keys of a list, and the samples of each child.
+const SOURCES: usize = MOST_CHILDREN + 1;
 
 // The key behind the first `taken` ones of a list.
 fn own_key<S: Shelf>(shelf: &S, list: usize, taken: usize) -> Option<S::Key>

@@ -29,7 +29,7 @@ lay-list-payloads-requires g c κs =
     let s = same-lengths bs v in
     let k = keys-until bs v (omega arith) in
     let all = sumBy-take-le (λ (b : ℕ × List (g .S·Key .Denot)). length (b .1)) t (v + 1) in
-    (count ∙ s, omega arith)
+    (omega arith, omega arith)
 
 pub loop-v-again : need.loop-v-again
 loop-v-again g c =
