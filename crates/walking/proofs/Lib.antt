@@ -10,3 +10,4 @@ mod Gathering
 mod Descending
 mod Joining
 mod Offering
+mod Visiting

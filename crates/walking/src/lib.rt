@@ -2,4 +2,5 @@
 pub mod join;
 pub mod offer;
 pub mod search;
+mod visit;
 pub mod walk;
