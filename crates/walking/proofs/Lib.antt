@@ -11,3 +11,6 @@ mod Descending
 mod Joining
 mod Offering
 mod Visiting
+mod Keeping
+mod Surveying
+mod Choosing
