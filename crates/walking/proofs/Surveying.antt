@@ -115,6 +115,6 @@ module _ {K : Type 0} (order : K → K → Ordering) (t : KeyTree K) (low high :
       -- from there both sides of the list
       pub seen-step : (r : (ℕ × ℕ) × ℕ)
           → (0 < v → getD places (sieveParent v) (0, 0) .0 ≤ length (augmented order t (parentOf t v)) → getD places (sieveParent v) (0, 0) .1 ≤ length (augmented order t (parentOf t v))
-            → r ≡ bothSides (edgeArrival order t Low low v (getD places (sieveParent v) (0, 0) .0)) (edgeArrival order t High high v (getD places (sieveParent v) (0, 0) .1)))
+          → r ≡ bothSides (edgeArrival order t Low low v (getD places (sieveParent v) (0, 0) .0)) (edgeArrival order t High high v (getD places (sieveParent v) (0, 0) .1)))
           → r ≡ sidesAt v
       seen-step r h = h below (above-within .0) (above-within .1) ∙ sides-step smaller v below seen-there (sieve .parents v below l) (getD places (sieveParent v) (0, 0)) above

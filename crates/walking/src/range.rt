@@ -53,13 +53,7 @@ impl<'a, K: KeyOrder> Cascade<'a, K> {
     }
 
     // The augmented places of both sides in each visited list, and the comparisons to find them.
-    fn survey(
-        self,
-        a: usize,
-        b: usize,
-        low: &K,
-        high: &K,
-    ) -> ([(usize, usize); SIEVE_LISTS], usize)
+    fn survey(self, a: usize, b: usize, low: &K, high: &K) -> ([(usize, usize); SIEVE_LISTS], usize)
         requires { ⌜ Sieved order self a b ⌝ }
         ensures { λ r. ⌜ length (r .0) ≡ 127 ⌝ }
         ensures { λ r. ⌜ WhereSieve order (self .entry) (λ t. PlacesOf order t a b (now (low .entry)) (now (high .entry)) (r .0) × (r .1 ≡ rangeComparisons order t a b (now (low .entry)) (now (high .entry)))) ⌝ }
