@@ -1,20 +1,19 @@
 -- The spans of the chosen lists, in rising number.
-use mathlib.Core.Path.{_≡_, sym, ap, ap₂, subst, _∙_}
+use mathlib.Core.Path.{_≡_, sym, ap, ap₂, _∙_}
 use mathlib.Core.Bool.{true, false}
-use mathlib.Core.List.{List, [], _∷_, _++_, map, map-map}
+use mathlib.Core.List.{List, map, map-map}
 use Prim.Native.Nat.{ℕ, _+_, _<_, _≤_}
 use native.Mathlib.Omega.{arith}
 use lib.Dec.{lit≤}
 use lib.ListN.{length, getD, set}
 use Rattle.std.specs.Iters.{counting}
-use Rattle.std.specs.shelf.Lists.{kept-by, All}
+use Rattle.std.specs.shelf.Lists.{kept-by}
 use Rattle.std.specs.declared.cmp.Ordering.{Ordering}
 use Rattle.std.proofs.shelf.Elements.{all-getD, all-kept-by}
-use Rattle.std.proofs.shelf.Lists.{length-map, length-push, map-push, getD-map}
+use Rattle.std.proofs.shelf.Lists.{length-map, length-push, map-push}
 use Rattle.orders.specs.Laws.{LawfulOrder}
 use Rattle.orders.specs.declared.side.Side.the-variants.{Low, High}
 use Rattle.shelves.specs.Slots.{sieveLists, slotCount}
-use Rattle.cascade.specs.SlotTree as slots
 use Rattle.cascade.specs.SlotTree.{chosen, chosenLists}
 use Rattle.cascade.specs.Rows.{tally}
 use Rattle.cascade.specs.Trees.{KeyTree, ownSource, ParentsSmaller, augmented}

@@ -1,13 +1,13 @@
 -- The spans of an offer: what lies between a low and a high lookup.
 use mathlib.Core.Path.{_≡_, sym, ap, ap₂, subst, _∙_}
 use mathlib.Core.List.{List, map, map-map}
-use Prim.Native.Nat.{ℕ, zero, suc, _+_, _-_, _*_, _<_, _≤_}
+use Prim.Native.Nat.{ℕ, zero, suc, _+_, _-_, _<_, _≤_}
 use native.Mathlib.Omega.{arith}
 use lib.ListN.{length, getD, take, replicate}
 use Rattle.std.specs.Iters.{counting}
 use Rattle.std.specs.declared.cmp.Ordering.{Ordering}
 use Rattle.std.proofs.shelf.Counted.{length-map-counting, getD-map-counting}
-use Rattle.std.proofs.shelf.Lists.{length-map, getD-map, getD-append-left, same-lists, take-at}
+use Rattle.std.proofs.shelf.Lists.{length-map, getD-map, getD-append-left, same-lists}
 use Rattle.orders.specs.Laws.{LawfulOrder}
 use Rattle.orders.specs.declared.side.Side.{Side}
 use Rattle.orders.specs.declared.side.Side.the-variants.{Low, High}
@@ -25,6 +25,7 @@ use Rattle.register.specs.declared.answers.Stop.{Stop}
 use Rattle.walking.specs.Walked.{lookedUp, offeredSpans}
 use Rattle.walking.specs.Reached.{SpanOf, noSpan}
 use Rattle.walking.specs.Between.{spanAt, spansBetween}
+use Rattle.walking.proofs.Filling.{filled-taken}
 use Rattle.walking.proofs.Spanning.{not-above, span-of}
 use Rattle.walking.proofs.Paths.{path-ends, path-linked}
 
@@ -88,9 +89,7 @@ module _ {K : Type 0} (order : K → K → Ordering) (laws : LawfulOrder order) 
       pub spans-taken : (spans : List Span) → spans ≡ filledUp 9 noSpan (spansBetween (low .stops) (high .stops) (low .used))
           → take (low .used - 0) spans ≡ offeredSpans order t end q
       spans-taken spans e =
-          let n : length (offeredSpans order t end q) ≡ low .used - 0 = omega (arith, offered-used, ap (λ r. r .used) l) in
-          ap (take (low .used - 0)) (e ∙ ap (filledUp 9 noSpan) spans-are)
-          ∙ take-at (offeredSpans order t end q) (replicate (9 - length (offeredSpans order t end q)) noSpan) (low .used - 0) n
+          filled-taken 9 (low .used) noSpan (offeredSpans order t end q) spans (e ∙ ap (filledUp 9 noSpan) spans-are) (ap (λ r. r .used) l ∙ sym offered-used)
 
 pub offer-same : {P : Type 0} {spans spans′ : List Span} {used used′ : ℕ} {sum sum′ : ℕ × P} {comparisons comparisons′ : ℕ}
     → spans ≡ spans′ → used ≡ used′ → sum ≡ sum′ → comparisons ≡ comparisons′

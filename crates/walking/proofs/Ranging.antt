@@ -1,14 +1,14 @@
 -- The spans of a range.
 use mathlib.Core.Path.{_≡_, sym, ap, subst, _∙_}
 use mathlib.Core.Bool.{true}
-use mathlib.Core.List.{List, map}
+use mathlib.Core.List.{List}
 use Prim.Native.Nat.{ℕ, _-_, _<_, _≤_}
 use native.Mathlib.Omega.{arith}
 use lib.Dec.{lit≤}
-use lib.ListN.{length, getD, take, replicate}
+use lib.ListN.{length, getD, take}
 use Rattle.std.specs.Orderings.{isLe}
 use Rattle.std.specs.declared.cmp.Ordering.{Ordering}
-use Rattle.std.proofs.shelf.Lists.{getD-map, take-at, length-take}
+use Rattle.std.proofs.shelf.Lists.{getD-map, length-take}
 use Rattle.orders.specs.Laws.{LawfulOrder}
 use Rattle.shelves.specs.Slots.{slotCount}
 use Rattle.cascade.specs.SlotTree.{SieveShaped, chosenLists}
@@ -20,12 +20,8 @@ use Rattle.register.specs.declared.answers.Span.{Span}
 use Rattle.walking.specs.Ranged.{rangedSpans}
 use Rattle.walking.specs.Reached.{SpanOf, noSpan}
 use Rattle.walking.proofs.Choosing.{spanAt, chosen-there, ranged-is, ranged-used}
+use Rattle.walking.proofs.Filling.{filled-taken}
 use Rattle.walking.proofs.Spanning.{span-of}
-
-taken : {X : Type 0} (most used : ℕ) (none : X) (xs filled : List X) → filled ≡ filledUp most none xs → used ≡ length xs → take (used - 0) filled ≡ xs
-taken most used none xs filled e u =
-    let n : length xs ≡ used - 0 = omega arith in
-    ap (take (used - 0)) e ∙ take-at xs (replicate (most - length xs) none) (used - 0) n
 
 pub taken-few : {X : Type 0} (used : ℕ) (filled : List X) → used ≤ 10 → length (take (used - 0) filled) ≤ 127
 taken-few used filled h = omega (arith, length-take (used - 0) filled)
@@ -33,7 +29,7 @@ taken-few used filled h = omega (arith, length-take (used - 0) filled)
 module _ {K : Type 0} (order : K → K → Ordering) (t : KeyTree K) (a b : ℕ) (low high : K) where
   module _ (spans : List Span) (used : ℕ) (is : _≡_ {A = List Span × ℕ} (spans, used) (filledUp 10 noSpan (rangedSpans order t a b low high), length (rangedSpans order t a b low high))) where
     pub ranged-taken : take (used - 0) spans ≡ rangedSpans order t a b low high
-    ranged-taken = taken 10 used noSpan (rangedSpans order t a b low high) spans (ap (λ r. r .0) is) (ap (λ r. r .1) is)
+    ranged-taken = filled-taken 10 used noSpan (rangedSpans order t a b low high) spans (ap (λ r. r .0) is) (ap (λ r. r .1) is)
 
     pub ranged-few : a ≤ b → b < slotCount → used ≤ 10
     ranged-few up top = subst (λ n. n ≤ 10) (sym (ap (λ r. r .1) is ∙ ranged-used order t low high a b)) (few-chosen 10 (lit≤ tt) a b up top)

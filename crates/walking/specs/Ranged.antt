@@ -2,13 +2,11 @@
 use mathlib.Core.Path.{_≡_}
 use mathlib.Core.Bool.{true}
 use mathlib.Core.List.{List, map}
-use Prim.Native.Nat.{ℕ, _+_, _<_, _≤_}
-use denote.Ref.{now}
+use Prim.Native.Nat.{ℕ, _<_, _≤_}
 use lib.ListN.{length}
 use Rattle.std.specs.Orderings.{isLe}
 use Rattle.std.specs.shelf.Lists.{folded}
 use Rattle.std.specs.declared.cmp.Ordering.{Ordering}
-use Rattle.orders.specs.declared.side.Side.the-variants.{Low, High}
 use Rattle.shelves.specs.Slots.{slotCount}
 use Rattle.cascade.specs.declared.row.Row.{Row}
 use Rattle.cascade.specs.SlotTree as slots

@@ -8,7 +8,7 @@ use Rattle.std.specs.declared.cmp.Ordering.{Ordering}
 use Rattle.orders.specs.declared.side.Side.the-variants.{Low, High}
 use Rattle.shelves.specs.Slots.{sieveLists, slotCount}
 use Rattle.cascade.specs.SlotTree.{SieveShaped, visited}
-use Rattle.cascade.specs.Trees.{KeyTree, augmented}
+use Rattle.cascade.specs.Trees.{KeyTree}
 use Rattle.cascade.specs.Walks.{arrival}
 use Rattle.walking.specs.Walked.{LaidIn}
 use Rattle.walking.specs.declared.walk.Cascade.{Cascade}

@@ -1,12 +1,11 @@
 use mathlib.Core.Path.{_≡_, refl, sym, ap, ap₂, subst, _∙_}
 use mathlib.Core.Bool.{true, false}
 use mathlib.Core.List.{map}
-use Prim.Native.Nat.{ℕ, _+_, _<_, _≤_}
+use Prim.Native.Nat.{_<_}
 use native.Mathlib.Omega.{arith}
 use lib.ListN.{length, getD, set}
 use Rattle.cascade.specs.SlotTree.{chosen}
 use Rattle.register.specs.Answers.{span, filledUp}
-use Rattle.register.specs.declared.answers.Span.{Span}
 use Rattle.walking.specs.Reached.{noSpan}
 use Rattle.walking.proofs.Choosing.{chosenBefore, spanAt, count-yes, count-no, chosen-room, spans-yes, spans-no, ranged-is, ranged-used, placed-span}
 use Rattle.walking.proofs.Surveying.{sides-within}

@@ -1,7 +1,4 @@
-use mathlib.Core.Path.{sym, ap, subst}
-use Prim.Native.Nat.{ℕ, _≤_}
 use native.Mathlib.Omega.{arith}
-use lib.ListN.{drop}
 use Rattle.orders.specs.declared.side.Side.the-variants.{Low, High}
 use Rattle.walking.proofs.Surveying.{edge-few}
 use Rattle.walking.proofs.walk.Cascade.step_sides.Needs as need

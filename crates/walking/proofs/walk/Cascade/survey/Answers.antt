@@ -13,9 +13,6 @@ use Rattle.walking.proofs.Surveying.{Seen, sidesAt, sides-few, seen-there, abo
 use Rattle.walking.proofs.walk.Cascade.survey.Needs as need
 use Rattle.walking.proofs.walk.Cascade.survey.Needs.{then-is-visited, else-is-visited}
 
-pub root-sides-comparisons-requires : need.root-sides-comparisons-requires
-root-sides-comparisons-requires g c κs = let p = c .pre in record { tree = p .tree; laid = p .laid; there = subst (λ n. 0 < n) (sym (p .sieve .lists)) (omega arith) }
-
 pub loop-list-holds : need.loop-list-holds
 loop-list-holds g c = (
   length-set (replicate 127 (0, 0)) 0 (c .root-sides-comparisons .result .0),
