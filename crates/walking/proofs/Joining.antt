@@ -1,15 +1,15 @@
 -- The payloads of spans, one span after the other.
 use mathlib.Core.Path.{_≡_, refl, sym, ap, ap₂, _∙_}
 use mathlib.Core.List.{List, [], _∷_, _++_, map}
-use Prim.Native.Nat.{ℕ, suc, min, _+_, _-_, _*_, _<_, _≤_}
+use Prim.Native.Nat.{ℕ, suc, _+_, _-_, _*_, _<_, _≤_}
 use native.Mathlib.Omega.{arith}
 use lib.ListN.{length, getD, take, drop}
 use Rattle.std.specs.shelf.Lists.{folded}
 use Rattle.std.specs.declared.cmp.Ordering.{Ordering}
-use Rattle.std.proofs.shelf.Lists.{append-nil, append-assoc, length-append, length-take-le, length-drop, length-map, getD-map, map-more, same-lists, take-all}
+use Rattle.std.proofs.shelf.Lists.{append-nil, append-assoc, length-append, length-take-le, length-drop, map-more, take-all}
 use Rattle.std.proofs.shelf.Sums.{sumBy-more, sumBy-take-le}
 use Rattle.cascade.specs.declared.row.Row.{Row}
-use Rattle.cascade.specs.Trees.{KeyTree, keysAt, allKeys, augmentedLists}
+use Rattle.cascade.specs.Trees.{KeyTree, allKeys}
 use Rattle.register.specs.Memory.{joinedLists}
 use Rattle.register.specs.declared.answers.Span.{Span}
 use Rattle.plan.specs.Laid.{Laid}

@@ -9,4 +9,10 @@ mod Filling
 mod Gathering
 mod Descending
 mod Joining
+mod Spanning
 mod Offering
+mod Visiting
+mod Keeping
+mod Surveying
+mod Choosing
+mod Ranging

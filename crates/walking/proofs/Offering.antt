@@ -1,26 +1,21 @@
 -- The spans of an offer: what lies between a low and a high lookup.
-use mathlib.Core.Path.{_≡_, refl, sym, ap, ap₂, subst, _∙_}
-use mathlib.Core.Bool.{Bool, true, false}
-use mathlib.Core.List.{List, [], _∷_, map, map-map}
-use Prim.Native.Nat.{ℕ, zero, suc, _+_, _-_, _*_, _<_, _≤_}
+use mathlib.Core.Path.{_≡_, sym, ap, ap₂, subst, _∙_}
+use mathlib.Core.List.{List, map, map-map}
+use Prim.Native.Nat.{ℕ, zero, suc, _+_, _-_, _<_, _≤_}
 use native.Mathlib.Omega.{arith}
 use lib.ListN.{length, getD, take, replicate}
 use Rattle.std.specs.Iters.{counting}
-use Rattle.std.specs.Orderings.{isLe, isLt}
 use Rattle.std.specs.declared.cmp.Ordering.{Ordering}
-use Rattle.std.specs.declared.cmp.Ordering.the-variants.{Less, Equal, Greater}
 use Rattle.std.proofs.shelf.Counted.{length-map-counting, getD-map-counting}
-use Rattle.std.proofs.shelf.Lists.{length-map, getD-map, getD-append-left, same-lists, take-at}
+use Rattle.std.proofs.shelf.Lists.{length-map, getD-map, getD-append-left, same-lists}
 use Rattle.orders.specs.Laws.{LawfulOrder}
-use Rattle.orders.specs.Places.{bit, count, place}
 use Rattle.orders.specs.declared.side.Side.{Side}
 use Rattle.orders.specs.declared.side.Side.the-variants.{Low, High}
-use Rattle.cascade.specs.Trees.{KeyTree, path, keysAt, augmented}
+use Rattle.cascade.specs.Trees.{KeyTree, path, augmented}
 use Rattle.cascade.specs.Walks as walks
 use Rattle.cascade.specs.Walks.{walkedPlace}
-use Rattle.cascade.proofs.Counts.{count-le-length}
 use Rattle.cascade.proofs.Searching.{bitLength-least}
-use Rattle.cascade.proofs.Walking.{walks, lookup-within}
+use Rattle.cascade.proofs.Walking.{lookup-within}
 use Rattle.register.specs.Answers.{stop, span, filledUp}
 use Rattle.register.specs.Shape.{Shaped}
 use Rattle.register.specs.declared.answers.Lookup.{Lookup}
@@ -30,17 +25,9 @@ use Rattle.register.specs.declared.answers.Stop.{Stop}
 use Rattle.walking.specs.Walked.{lookedUp, offeredSpans}
 use Rattle.walking.specs.Reached.{SpanOf, noSpan}
 use Rattle.walking.specs.Between.{spanAt, spansBetween}
+use Rattle.walking.proofs.Filling.{filled-taken}
+use Rattle.walking.proofs.Spanning.{not-above, span-of}
 use Rattle.walking.proofs.Paths.{path-ends, path-linked}
-
-bit-forward : (o : Ordering) → bit (isLt o) ≤ bit (isLe o)
-bit-forward Less = omega arith
-bit-forward Equal = omega arith
-bit-forward Greater = omega arith
-
--- the low-side place is not behind the high-side place
-forward : {K : Type 0} (order : K → K → Ordering) (q : K) (ks : List K) → place order Low q ks ≤ place order High q ks
-forward order q [] = omega arith
-forward order q (k ∷ ks) = omega (arith, bit-forward (order k q), forward order q ks)
 
 -- the stops of a list of lists
 module _ (f : ℕ → ℕ) (lists : List ℕ) where
@@ -68,16 +55,6 @@ between-is f g lists =
     ∙ sym (getD-map (λ v. span v (f v) (g v)) lists k 0 d h))
 
 module _ {K : Type 0} (order : K → K → Ordering) (laws : LawfulOrder order) (t : KeyTree K) (shaped : Shaped t) (q : K) where
-  pub span-of : (v : ℕ) → v < length t → SpanOf t (span v (walkedPlace order t Low q v) (walkedPlace order t High q v))
-  span-of v l =
-      let low = walks order laws t (shaped .smaller) Low q v l in
-      let high = walks order laws t (shaped .smaller) High q v l in
-      record {
-        there = l;
-        forward = omega (arith, low, high, forward order q (keysAt t v));
-        within = omega (arith, high, count-le-length (λ k. isLe (order k q)) (keysAt t v));
-      }
-
   module _ (end : ℕ) (there : end < length t) where
     pub used-few : length (path t end) ≤ 9
     used-few = omega (arith, shaped .shallow end there)
@@ -95,7 +72,7 @@ module _ {K : Type 0} (order : K → K → Ordering) (laws : LawfulOrder order) 
     each-offered i l =
         let h : i < length (path t end) = omega (arith, offered-used) in
         subst (SpanOf t) (sym (getD-map (λ v. span v (walkedPlace order t Low q v) (walkedPlace order t High q v)) (path t end) i 0 noSpan h))
-        (span-of (getD (path t end) i 0) (list-there i h))
+        (span-of order laws q q (not-above order laws q) t (shaped .smaller) (getD (path t end) i 0) (list-there i h))
 
     pub comparisons-few : (side : Side) → length (augmented order t 0) ≤ 53333 → walks.comparisons order t side q end ≤ 40
     comparisons-few side small =
@@ -112,9 +89,7 @@ module _ {K : Type 0} (order : K → K → Ordering) (laws : LawfulOrder order) 
       pub spans-taken : (spans : List Span) → spans ≡ filledUp 9 noSpan (spansBetween (low .stops) (high .stops) (low .used))
           → take (low .used - 0) spans ≡ offeredSpans order t end q
       spans-taken spans e =
-          let n : length (offeredSpans order t end q) ≡ low .used - 0 = omega (arith, offered-used, ap (λ r. r .used) l) in
-          ap (take (low .used - 0)) (e ∙ ap (filledUp 9 noSpan) spans-are)
-          ∙ take-at (offeredSpans order t end q) (replicate (9 - length (offeredSpans order t end q)) noSpan) (low .used - 0) n
+          filled-taken 9 (low .used) noSpan (offeredSpans order t end q) spans (e ∙ ap (filledUp 9 noSpan) spans-are) (ap (λ r. r .used) l ∙ sym offered-used)
 
 pub offer-same : {P : Type 0} {spans spans′ : List Span} {used used′ : ℕ} {sum sum′ : ℕ × P} {comparisons comparisons′ : ℕ}
     → spans ≡ spans′ → used ≡ used′ → sum ≡ sum′ → comparisons ≡ comparisons′

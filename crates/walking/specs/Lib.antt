@@ -1,3 +1,5 @@
 pub mod Walked
 pub mod Reached
 pub mod Between
+pub mod Ranged
+pub mod Surveyed

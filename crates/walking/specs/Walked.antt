@@ -42,9 +42,6 @@ module _ {K : Type 0} (order : K → K → Ordering) (c : Cascade K) where
   abbrev pub WalkableIn : ℕ → Type 0
   WalkableIn end = Walkable order (now (c .table)) (now (c .keys)) (now (c .rows)) end
 
-  abbrev pub OfferableIn : (payloads end : ℕ) → Type 0
-  OfferableIn payloads end = Offerable order (now (c .table)) (now (c .keys)) (now (c .rows)) payloads end
-
   -- P of all lists that lie there and of which one is list `end`
   abbrev pub WhereLaid : (end : ℕ) → (KeyTree K → Type 0) → Type 0
   WhereLaid end P = (t : KeyTree K) → LaidIn t → end < length t → P t

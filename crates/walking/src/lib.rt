@@ -1,5 +1,7 @@
 // Walks over the lists of an index as they lie in memory: lookups, offers and ranges.
-pub mod join;
-pub mod offer;
-pub mod search;
+mod join;
+mod offer;
+mod range;
+mod search;
+mod visit;
 pub mod walk;

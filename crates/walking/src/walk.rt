@@ -48,7 +48,7 @@ impl<'a, K: KeyOrder> Cascade<'a, K> {
     }
 
     // The place in a list at its augmented place: how many of the keys in front are its own.
-    fn own_place(self, list: usize, place: usize) -> usize
+    pub(crate) fn own_place(self, list: usize, place: usize) -> usize
         requires { ⌜ Placed order self list place ⌝ }
         ensures { λ r. ⌜ WhereLaid order (self .entry) list (λ t. place ≤ length (augmented order t list) → r ≡ tally ownSource place (augmented order t list)) ⌝ }
     {
@@ -56,7 +56,7 @@ impl<'a, K: KeyOrder> Cascade<'a, K> {
     }
 
     // The augmented place in the root, and the comparisons to find it.
-    fn at_root(self, key: &K, side: Side) -> (usize, usize)
+    pub(crate) fn at_root(self, key: &K, side: Side) -> (usize, usize)
         requires { ⌜ WalkableIn order self 0 ⌝ }
         ensures { λ r. ⌜ WhereLaid order (self .entry) 0 (λ t. r ≡ rootArrival order t side (now (key .entry))) ⌝ }
     {
@@ -64,7 +64,7 @@ impl<'a, K: KeyOrder> Cascade<'a, K> {
     }
 
     // The augmented place in a list, from the one in its parent, and the comparisons to find it.
-    fn step_into(self, list: usize, above: usize, key: &K, side: Side) -> (usize, usize)
+    pub(crate) fn step_into(self, list: usize, above: usize, key: &K, side: Side) -> (usize, usize)
         requires { ⌜ Below order self list above ⌝ }
         ensures { λ r. ⌜ WhereLaid order (self .entry) list (λ t. 0 < list → above ≤ length (augmented order t (parentOf t list)) → r ≡ edgeArrival order t side (now (key .entry)) list above) ⌝ }
     {

@@ -1,4 +1,3 @@
-use Prim.Native.Nat.{_≤_}
 use mathlib.Core.Path.{_≡_}
 use Rattle.register.specs.Answers.{span, filledUp}
 use Rattle.walking.specs.Between.{spansBetween}

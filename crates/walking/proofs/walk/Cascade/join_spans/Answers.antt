@@ -2,8 +2,7 @@ use native.Mathlib.Omega.{arith}
 use borrow.Author.Needs.{needs}
 use lib.ListN.{length, getD}
 use Rattle.walking.specs.Reached.{noSpan}
-use Rattle.walking.proofs.Joining.{Held, span-held, joined-none, joined-more, joined-all}
-use Rattle.walking.proofs.Lying.{list-few}
+use Rattle.walking.proofs.Joining.{span-held, joined-none, joined-more, joined-all}
 use Rattle.walking.proofs.walk.Cascade.join_spans.Needs as need
 
 pub loop-i-holds : need.loop-i-holds

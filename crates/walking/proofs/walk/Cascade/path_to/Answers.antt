@@ -1,7 +1,7 @@
-use mathlib.Core.Path.{_≡_, sym, subst}
-use Prim.Native.Nat.{_-_, _<_, _≤_}
+use mathlib.Core.Path.{sym, subst}
+use Prim.Native.Nat.{_-_}
 use native.Mathlib.Omega.{arith}
-use lib.ListN.{length, set, replicate}
+use lib.ListN.{set, replicate}
 use Rattle.walking.proofs.Climbing.{Climbed, climbed-none, climbed-room, climbed-more, climbed-all}
 use Rattle.walking.proofs.Lying.{list-few, parent-is}
 use Rattle.walking.proofs.walk.Cascade.path_to.Needs as need

@@ -1,12 +1,7 @@
-use Prim.Native.Nat.{ℕ, _<_}
 use native.Mathlib.Omega.{arith}
-use lib.ListN.{length}
 use Rattle.walking.proofs.Gathering.{gathered-all}
 use Rattle.walking.proofs.Descending.{way-along, lists-some, root-there, root-arrived, descended-first, list-there, list-below, above-within, step-arrived, comparisons-few, descended-more}
 use Rattle.walking.proofs.walk.Cascade.walk.Needs as need
-
-pub at-root-at-requires : need.at-root-at-requires
-at-root-at-requires g c κs = let p = c .pre in record { tree = p .tree; laid = p .laid; there = let h = p .there in omega arith }
 
 pub own-place-requires : need.own-place-requires
 own-place-requires g c κs =
