@@ -1,8 +1,12 @@
-// The command line: checks tree files and shows what they hold.
+// The command line: checks tree files, shows what they hold and looks terms up in them.
 use std::io;
 
+mod answers;
 mod commands;
 mod depths;
+mod questions;
+mod refusal;
+mod room;
 mod text;
 mod tree;
 

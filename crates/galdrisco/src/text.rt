@@ -26,6 +26,14 @@ impl Counted {
             many: "entries",
         }
     }
+
+    pub fn comparisons(number: usize) -> Counted {
+        Counted {
+            number,
+            one: "comparison",
+            many: "comparisons",
+        }
+    }
 }
 
 pub impl fmt::Display for Counted as CountedDisplay {

@@ -1,52 +1,28 @@
 // A tree file in memory of its own.
 use crate::depths::depth;
+use crate::refusal::AllocRefusal;
+use crate::refusal::FaultRefusal;
+use crate::refusal::Refusal;
+use crate::room::Room;
 use crate::text::Counted;
 use crate::text::CountedDisplay;
 use crate::text::MarkWords;
 use crate::text::MarkWordsDisplay;
 use crate::text::Quoted;
 use crate::text::QuotedDisplay;
-use faults::Fault;
-use faults::sentences::FaultDisplay;
 use orders::entry::Entry;
 use orders::entry::EntryClone;
+use orders::side::Side;
+use register::answers::Lookup;
+use register::answers::Offer;
 use shelves::rows::ListRow;
-use std::alloc::AllocError;
+use shelves::stored::Stored;
 use std::alloc::Global;
-use std::fmt;
 use std::io;
 use terms::key::Term;
 use terms::marks::Marks;
 use treefiles::load::check;
 use treefiles::load::load;
-
-// Why a file was not loaded.
-#[derive(Drop)]
-pub enum NotLoaded {
-    Refused(Fault),
-    NoMemory,
-}
-
-pub impl From<Fault> for NotLoaded as FaultNotLoaded {
-    fn from(fault: Fault) -> NotLoaded {
-        NotLoaded::Refused(fault)
-    }
-}
-
-pub impl From<AllocError> for NotLoaded as AllocNotLoaded {
-    fn from(_: AllocError) -> NotLoaded {
-        NotLoaded::NoMemory
-    }
-}
-
-pub impl fmt::Display for NotLoaded as NotLoadedDisplay {
-    fn fmt<W: fmt::Write>(&self, f: &mut fmt::Formatter<W>) -> fmt::Result {
-        match self {
-            NotLoaded::Refused(fault) => write!(f, "{fault}"),
-            NotLoaded::NoMemory => f.write_str("there is not enough memory to load it"),
-        }
-    }
-}
 
 #[derive(Drop)]
 pub struct Tree {
@@ -56,7 +32,7 @@ pub struct Tree {
 
 impl Tree {
     // Loads a file into memory that is taken for it: a check of the file tells how much.
-    pub fn load(heap: Global, file: &[u8]) -> Result<Tree, NotLoaded> {
+    pub fn load(heap: Global, file: &[u8]) -> Result<Tree, Refusal> {
         let needed = check(file)?;
         let no_list = ListRow {
             parent: 0,
@@ -70,6 +46,30 @@ impl Tree {
         let mut entries = vec![in heap; no_entry; needed.entries]?;
         load(file, lists.as_mut_slice(), entries.as_mut_slice())?;
         Ok(Tree { lists, entries })
+    }
+
+    // Where a key stands in each list from the root to an end list, by an index that is built for it.
+    pub fn look_up(
+        &self,
+        heap: Global,
+        list: usize,
+        key: &Term,
+        side: Side,
+    ) -> Result<Lookup, Refusal> {
+        let mut room = Room::new(heap, self.lists.len(), self.entries.len())?;
+        let index = room.index(&self.shelf())?;
+        Ok(index.look_up(list, key, side)?)
+    }
+
+    // The entries from the root to an end list that have a key, by an index that is built for it.
+    pub fn offer(&self, heap: Global, list: usize, key: &Term) -> Result<Offer<Marks>, Refusal> {
+        let mut room = Room::new(heap, self.lists.len(), self.entries.len())?;
+        let index = room.index(&self.shelf())?;
+        Ok(index.offer(list, key)?)
+    }
+
+    fn shelf(&self) -> Stored<'_, Term, Marks> {
+        Stored::new(self.lists.as_slice(), self.entries.as_slice())
     }
 
     // Prints each list, and below it its entries.
