@@ -17,7 +17,7 @@ use std::mem;
 
 impl<'m, K: KeyOrder, P: Payload> Memory<'m, K, P> {
     // Lays the lists of a shelf down from the starts of the memories. What lies behind stays.
-    pub fn lay_down<S: Shelf<Key = K, Payload = P>>(&mut self, shelf: &S, table: &ListTable)
+    pub(crate) fn lay_down<S: Shelf<Key = K, Payload = P>>(&mut self, shelf: &S, table: &ListTable)
         requires { ⌜ CanLay order (keyTree (meaning (now shelf))) (now table) (length (now (now self .keys))) (length (now (now self .rows))) (length (now (now self .payloads))) ⌝ }
         ensures keys { λ _. ⌜ now (now (self .exit) .keys) ≡ keysLaid (augmentedLists order (keyTree (meaning (now (shelf .entry))))) ++ drop (allAugmented order (keyTree (meaning (now (shelf .entry))))) (now (now (self .entry) .keys)) ⌝ }
         ensures rows { λ _. ⌜ now (now (self .exit) .rows) ≡ rowsLaid (augmentedLists order (keyTree (meaning (now (shelf .entry))))) ++ drop (allAugmented order (keyTree (meaning (now (shelf .entry)))) + length (keyTree (meaning (now (shelf .entry))))) (now (now (self .entry) .rows)) ⌝ }

@@ -16,7 +16,7 @@ fn join_at<P: Payload>(payloads: &mut [P], place: usize, by: P)
 
 impl<'m, K, P: Payload> Memory<'m, K, P> {
     // Joins a payload to the one at a place of payload memory; nothing else changes.
-    pub fn amend(&mut self, place: usize, by: P)
+    pub(crate) fn amend(&mut self, place: usize, by: P)
         requires { ⌜ place < length (now (now self .payloads)) ⌝ }
         ensures keys { λ _. ⌜ now (now (self .exit) .keys) ≡ now (now (self .entry) .keys) ⌝ }
         ensures rows { λ _. ⌜ now (now (self .exit) .rows) ≡ now (now (self .entry) .rows) ⌝ }
