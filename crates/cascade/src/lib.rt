@@ -1,5 +1,7 @@
 // The mathematics of cascaded lists: trees of key lists with their augmented lists, searches in them, and the sieve's tree.
 // Each theorem is the contract of a function.
+#![tactic(auto)]
+
 ghost use Rattle.cascade.specs.Theorems.{Lengths, Space, Ordered, Defined, RootSearch, EdgeWithin, OwnPlace, LookupWithin};
 ghost use Rattle.cascade.specs.SlotTheorems.{FewChosen, FewVisited, SlotsOnce, FromParent, RangeWithin, SpansCounted, Rectangle};
 ghost use Rattle.cascade.specs.Cases.{CasesHold};

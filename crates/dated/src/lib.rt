@@ -1,4 +1,6 @@
 // Dated keys and word counts: a key order and a payload for lists that are kept by day.
+#![tactic(auto)]
+
 ghost use Rattle.std.specs.Prelude.{◌≡◌, ◌+◌, ◌-◌, ◌^◌, min};
 ghost use Rattle.dated.specs.Days.{day_order};
 ghost use Rattle.dated.specs.Counts.{no_words, sum_of_words};

@@ -1,4 +1,6 @@
 // Refusals: why a call was refused, by which layer, and where.
+#![tactic(auto)]
+
 ghost use Rattle.std.specs.Prelude.{◌≡◌};
 ghost use Rattle.faults.specs.Refusals.{number_of, layer_of, fault, with_second};
 

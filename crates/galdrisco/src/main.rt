@@ -1,4 +1,6 @@
 // The command line: checks tree files, shows what they hold, looks terms up in them and counts jobs.
+#![tactic(auto)]
+
 use std::io;
 
 mod answers;

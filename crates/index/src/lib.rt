@@ -1,4 +1,6 @@
 // The index: lists with their bridges, kept in memory that the server lends.
+#![tactic(auto)]
+
 ghost use Rattle.std.specs.Prelude.{◌≡◌, ℕ, ◌+◌, ◌<◌, ◌≤◌, length, take, sum_by};
 ghost use Rattle.cascade.specs.Trees.{parent_of, ordinal, depth_of, all_keys};
 ghost use Rattle.plan.specs.Table.{runs_of};

@@ -1,4 +1,6 @@
 // Tests of the index through its calls, on a small tree whose keys are the letters' codes as days.
+#![tactic(auto)]
+
 #[cfg(test)]
 mod ranges;
 

@@ -1,4 +1,6 @@
 // Tests of verdicts and job counts on a house list and a client's list below it.
+#![tactic(auto)]
+
 #[cfg(test)]
 mod tests {
     use cascade::row::Row;

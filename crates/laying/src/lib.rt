@@ -1,6 +1,8 @@
 // Laying down what an index holds: the augmented lists of a shelf, their rows and the payloads of its lists, in lent
 // memory and with no memory of its own. Each payload takes one question to the shelf, each key of an augmented list one
 // question and a look at one sample of each child, and each list one pass over the list table.
+#![tactic(auto)]
+
 ghost use Rattle.std.specs.Prelude.{◌≡◌, ◌+◌, ◌++◌, length, drop};
 ghost use Rattle.cascade.specs.Trees.{all_keys, augmented_lists, all_augmented};
 ghost use Rattle.layout.specs.KeyTrees.{key_tree};

@@ -1,5 +1,7 @@
 // A layout: a value of no bytes whose type says that some lists are the augmented lists of a key tree whose lists are
 // in order. A struct that holds one has these facts of its ghost lists, under the order of its keys.
+#![tactic(auto)]
+
 ghost use Rattle.std.specs.Prelude.{◌≡◌, ℕ, true, List, []};
 ghost use denote.Sharing.{said};
 ghost use Rattle.cascade.specs.Trees.{augmented_lists};

@@ -1,4 +1,6 @@
 // What the engine is generic over: key orders and payloads. Each is a trait whose laws an implementation proves.
+#![tactic(auto)]
+
 ghost use Rattle.std.specs.Prelude.{◌≡◌};
 ghost use Rattle.std.specs.declared.cmp.Ordering.{Ordering};
 ghost use Rattle.orders.specs.Laws.{LawfulOrder, LawfulJoin};

@@ -1,4 +1,6 @@
 // Planning an index: the questions before a build, and the table of the runs that its lists take in memory.
+#![tactic(auto)]
+
 ghost use Rattle.layout.specs.KeyTrees.{key_tree};
 ghost use Rattle.plan.specs.Table.{Plans};
 

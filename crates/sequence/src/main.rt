@@ -1,5 +1,7 @@
 // A sequence of calls served over one index: lists are built, looked up in, amended, and built again over a sieved shelf.
 // Prints each call with its outcome.
+#![tactic(auto)]
+
 use cascade::row::Row;
 use dated::key::DatedKey;
 use index::requests::{Outcome, Request};

@@ -1,4 +1,6 @@
 // Shelves: sources of lists that answer questions about their lists and entries.
+#![tactic(auto)]
+
 ghost use Rattle.std.specs.Prelude.{◌≡◌, List, length};
 ghost use Rattle.shelves.specs.Meaning.{Branch, parent_at, count_at, entry_at};
 

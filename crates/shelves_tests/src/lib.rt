@@ -1,4 +1,6 @@
 // Tests of the shelves on tables made by hand, with dated keys and word counts.
+#![tactic(auto)]
+
 #[cfg(test)]
 mod tests {
     use dated::key::DatedKey;

@@ -1,4 +1,6 @@
 // Terms: the keys of term lists, and the marks of their entries.
+#![tactic(auto)]
+
 pub mod key;
 pub mod marks;
 

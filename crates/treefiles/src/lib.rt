@@ -1,4 +1,6 @@
 // Tree files: a tree of term lists as bytes, and loading it into memory.
+#![tactic(auto)]
+
 pub mod entry_points;
 mod field;
 mod fields;

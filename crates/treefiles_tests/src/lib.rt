@@ -1,4 +1,6 @@
 // Tests of tree files. They have a crate of their own because a crate with tests is proved twice.
+#![tactic(auto)]
+
 #[cfg(test)]
 mod tests {
     use faults::{Fault, Reason};

@@ -1,4 +1,6 @@
 // Walks over the lists of an index as they lie in memory: lookups, offers and ranges.
+#![tactic(auto)]
+
 mod join;
 mod offer;
 mod range;
