@@ -42,8 +42,3 @@ module _ {K P : Type 0} where
 -- a part that is cut to what the list has is the part that is claimed
 pub part_cut : {X : Type 0} (xs : List X) (start count from taken : ℕ) → from ≡ min start (length xs) → taken ≡ min count (length (take (length xs - from) (drop from xs))) → take (taken - 0) (take (length xs - from) (drop from xs)) ≡ take count (drop start xs)
 part_cut xs start count from taken e t = same_lists _ _ (search (rules, places)) (λ k d h. grind (arith, places))
-
--- what `get` and `copied` read is the element at that place
-pub item-nth : {X : Type 0} (xs : List X) (i : ℕ) (r : Option (Bor X)) → IsGetResult xs i i r → option_map (λ x. x.now) r ≡ slice_get xs i
-item-nth xs i None h = sym (slice_get_past xs i h.3)
-item-nth xs i (Some x) h = sym (slice_get-get_or xs i x.now h.3.0 ∙ ap Some (sym h.1))

@@ -3,4 +3,4 @@ use Rattle.dated.specs.Alike.{alike}
 use Rattle.dated.proofs.WordsPayload.join.Goals as goal
 
 pub returns : goal.returns
-returns c = (alike _ _ (omega arith), omega arith)
+returns c = record { value = alike _ _ (omega arith); number_value = omega arith }

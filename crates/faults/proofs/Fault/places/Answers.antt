@@ -9,7 +9,7 @@ by : (r s : Reason) (first second : ℕ) → r ≡ s → places_of s first secon
 by r s first second e = sym (ap (λ (x : Reason). places_of x first second) e)
 
 pub returns-in-KeyZeroByte : goal.returns-in-KeyZeroByte
-returns-in-KeyZeroByte c = c.key-places-in-KeyZeroByte.ensures ∙ by c.args.self.now.reason KeyZeroByte c.args.self.now.first c.args.self.now.second c.in-KeyZeroByte.is
+returns-in-KeyZeroByte c = c.key_places-in-KeyZeroByte.ensures ∙ by c.args.self.now.reason KeyZeroByte c.args.self.now.first c.args.self.now.second c.in-KeyZeroByte.is
 
 pub returns-in-SlotAboveLimit : goal.returns-in-SlotAboveLimit
 returns-in-SlotAboveLimit c = by c.args.self.now.reason SlotAboveLimit c.args.self.now.first c.args.self.now.second c.in-SlotAboveLimit.is

@@ -13,29 +13,29 @@ pub returns-then-a-b : goal.returns-then-a-b
 returns-then-a-b c =
     let s = c.args.self.now in
     let t = c.args.other.now in
-    let a = c.word-at-a.ensures in
-    let b = c.word-at-b.ensures in
-    let e = at_less s.bytes t.bytes (8 * c.loop-i.i) c.word-at-a.result c.word-at-b.result (omega (arith, s.sized)) (omega (arith, t.sized)) (a.value, a.fits) (b.value, b.fits) c.if-a-b.true in
+    let a = c.word_at-a.ensures in
+    let b = c.word_at-b.ensures in
+    let e = at_less s.bytes t.bytes (8 * c.loop-i.i) c.word_at-a.result c.word_at-b.result (omega (arith, s.sized)) (omega (arith, t.sized)) (a.value, a.fits) (b.value, b.fits) c.if-a-b.true in
     cc
 
 pub returns-then-b-a : goal.returns-then-b-a
 returns-then-b-a c =
     let s = c.args.self.now in
     let t = c.args.other.now in
-    let a = c.word-at-a.ensures in
-    let b = c.word-at-b.ensures in
-    let e = at_greater s.bytes t.bytes (8 * c.loop-i.i) c.word-at-a.result c.word-at-b.result (omega (arith, s.sized)) (omega (arith, t.sized)) (a.value, a.fits) (b.value, b.fits) c.if-b-a.true in
+    let a = c.word_at-a.ensures in
+    let b = c.word_at-b.ensures in
+    let e = at_greater s.bytes t.bytes (8 * c.loop-i.i) c.word_at-a.result c.word_at-b.result (omega (arith, s.sized)) (omega (arith, t.sized)) (a.value, a.fits) (b.value, b.fits) c.if-b-a.true in
     cc
 
 pub loop-i-preserved : goal.loop-i-preserved
 loop-i-preserved c =
     let s = c.args.self.now in
     let t = c.args.other.now in
-    let a = c.word-at-a.ensures in
-    let b = c.word-at-b.ensures in
+    let a = c.word_at-a.ensures in
+    let b = c.word_at-b.ensures in
     let next : 8 * (c.loop-i.i + 1) ≡ 8 * c.loop-i.i + 8 = omega arith in
     ap (λ (k : ℕ). text_order (drop k s.bytes) (drop k t.bytes)) next
-    ∙ sym (at_same s.bytes t.bytes (8 * c.loop-i.i) c.word-at-a.result c.word-at-b.result (omega (arith, s.sized)) (omega (arith, t.sized)) (a.value, a.fits) (b.value, b.fits) c.if-b-a.false c.if-a-b.false)
+    ∙ sym (at_same s.bytes t.bytes (8 * c.loop-i.i) c.word_at-a.result c.word_at-b.result (omega (arith, s.sized)) (omega (arith, t.sized)) (a.value, a.fits) (b.value, b.fits) c.if-b-a.false c.if-a-b.false)
     ∙ c.loop-i.invariant
 
 pub returns : goal.returns
