@@ -21,9 +21,9 @@ pub struct Layout<K: KeyOrder> {
 }
 
 impl<K: KeyOrder> Model for Layout<K> {
-    ghost also_owns = { λ l. laid_out K.KeyOrder.order l.tree l.augmented };
+    ghost also_owns = { λ l. laid_out K.order l.tree l.augmented };
 
-    ghost also_shares = { λ l _ κ. said (laid_out K.KeyOrder.order l.tree l.augmented) (tt, tt) κ };
+    ghost also_shares = { λ l _ κ. said (laid_out K.order l.tree l.augmented) κ };
 }
 
 impl<K: KeyOrder> Drop for Layout<K> {
@@ -41,13 +41,13 @@ pub fn empty<K: KeyOrder>() -> Layout<K>
 
 // The layout of the lists of a shelf, which are in order.
 pub fn of_shelf<S: Shelf>(shelf: &S) -> Layout<S::Key>
-    requires { all_in_order S.Key.KeyOrder.order (key_tree (meaning shelf.now)) ≡ true }
-    ensures { (result.tree ≡ key_tree (meaning shelf.now)) × (result.augmented ≡ augmented_lists S.Key.KeyOrder.order (key_tree (meaning shelf.now))) }
+    requires { all_in_order S.Key.order (key_tree (S.meaning shelf.now)) ≡ true }
+    ensures { (result.tree ≡ key_tree (S.meaning shelf.now)) × (result.augmented ≡ augmented_lists S.Key.order (key_tree (S.meaning shelf.now))) }
 {
     Layout { of: PhantomData }
 }
 
 // What a layout says of its lists.
 pub fn known<K: KeyOrder>(layout: &Layout<K>)
-    ensures { (layout.now.augmented ≡ augmented_lists order layout.now.tree) × (all_in_order order layout.now.tree ≡ true) }
+    ensures { (layout.now.augmented ≡ augmented_lists K.order layout.now.tree) × (all_in_order K.order layout.now.tree ≡ true) }
 {}

@@ -33,6 +33,7 @@ use denote.Triple.Table.{entered}
 use denote.Triple.Walked.{says, Stays, stay_dropped, walk_of, ends_at, walked, Goes-dropped, walk_Meets}
 use Rattle.cascade.specs.Trees.{augmented_lists}
 use Rattle.layout.specs.KeyTrees.{key_tree, all_in_order}
+use Rattle.std.specs.declared.clone.Clone as Clone
 use Rattle.orders.specs.declared.KeyOrder as KeyOrder
 use Rattle.orders.specs.declared.Payload as Payload
 use Rattle.shelves.specs.declared.Shelf as Shelf
@@ -51,9 +52,9 @@ fourth-fact 𝓤 P Q R T =
     let three = sep 𝓤 (fact 𝓤 Q) two in
     via 𝓤 three (snd∗ 𝓤 (fact 𝓤 P) three) (via 𝓤 two (snd∗ 𝓤 (fact 𝓤 Q) two) (snd∗ 𝓤 (fact 𝓤 R) (fact 𝓤 T)))
 
-module _ (S : RattleType) (SK : RattleType) (SL : RattleType) (s : Shelf.Ghosts S.Denot SK.Denot SL.Denot) (ds : Dict) (g : KeyOrder.Ghosts SK.Denot) (dk : Dict) (p : Payload.Ghosts SL.Denot) (dp : Dict) where
+module _ (S : RattleType) (SK : RattleType) (SL : RattleType) (s : Shelf.Ghosts S.Denot SK.Denot SL.Denot) (ds : Dict) (g : KeyOrder.Ghosts SK.Denot) (dk : Dict) (cg : Clone.Ghosts SK.Denot) (ck : Dict) (p : Payload.Ghosts SL.Denot) (dp : Dict) (cp : Clone.Ghosts SL.Denot) (cl : Dict) where
   abbrev args : Args
-  args = bounded (a_type ∷ (a_type ∷ (a_type ∷ []))) (S, (SK, (SL, tt))) (dcons ds (dcons dk (dcons dp dnil)))
+  args = bounded (a_type ∷ (a_type ∷ (a_type ∷ []))) (S, (SK, (SL, tt))) (dcons ds (dcons dk (dcons ck (dcons dp (dcons cl dnil)))))
 
   abbrev fn' : Fn
   fn' = inst_fn args code.function
@@ -68,7 +69,7 @@ module _ (S : RattleType) (SK : RattleType) (SL : RattleType) (s : Shelf.Ghosts 
   R = C.the_row K g
 
   abbrev ended : Ended
-  ended = F.ended S SK SL s ds g dk p dp
+  ended = F.ended S SK SL s ds g dk cg ck p dp cp cl
 
   abbrev stayed : Stays ended.signature.params ended.kept
   stayed = (stay_dropped (RefOf (0 ∷ []) tt (plain (λ _. X)) (λ _. tt)) yes, tt)
@@ -81,7 +82,7 @@ module _ (S : RattleType) (SK : RattleType) (SL : RattleType) (s : Shelf.Ghosts 
     open 𝓛 use {H}
 
     abbrev held : Clauses 𝓤 ended
-    held = F.clauses S SK SL s ds g dk p dp 𝓛 at_mem run
+    held = F.clauses S SK SL s ds g dk cg ck p dp cp cl 𝓛 at_mem run
 
     module _ (E : Calls 𝓤 H) (Λ : Loops 𝓤 H) (κs : Lfts 4) (qs : Shares 4) (bounds : AllOutlive 4 ended.signature.outlives κs) (r : Bor S.Denot) where
       abbrev bound : (walk_of 𝓛 ended stayed held).Ghost
@@ -102,7 +103,7 @@ module _ (S : RattleType) (SK : RattleType) (SL : RattleType) (s : Shelf.Ghosts 
           enter ! E Λ fn' (shr_vals r) _ $ alloc_all ! (λ l. pass_all ! refl ((tt, tt), tt) $
           sets ! (agg ! (no_more !)) refl (tt, tt) $ sets ! (agg ! (and_then ! (get ! refl) (no_more !))) refl (tt, (tt, tt)) $ returns ! (look_at ! 0 refl) $ free_all ! refl $
           suffices ! _ (ends_at 𝓛 ended stayed held bound none made (tt, tt) (tt, tt)) $ says ! (refl, refl) $
-          pure_i ! (R.own made (none ∷ [])) ((λ x. (tt, ((λ y. (tt, tt)), tt))), (tt, tt)) (((vstruct vnil ∷ [], tt), (refl, ((tt, (refl, tt)), tt))), (refl, o)) $ nothing ! $ nothing ! $ fjoin ! $ join ! $ move ! (1 ∷ 0 ∷ []) $ join ! $ done !)
+          pure_i ! (R.own_val made (none ∷ [])) ((λ x. (tt, ((λ y. (tt, tt)), tt))), (tt, tt)) (((vstruct vnil ∷ [], tt), (refl, ((tt, (refl, tt)), tt))), (refl, o)) $ nothing ! $ nothing ! $ fjoin ! $ join ! $ move ! (1 ∷ 0 ∷ []) $ join ! $ done !)
 
     meets : (𝓣 : Tables 𝓤 H) → Meets 𝓛 ended.signature (WpFn 𝓤 H 𝓣.C 𝓣.Λ fn') (closing 𝓛 ended held)
     meets 𝓣 =
@@ -112,12 +113,12 @@ module _ (S : RattleType) (SK : RattleType) (SL : RattleType) (s : Shelf.Ghosts 
         fact_use 𝓤 (InOrder a.0.now) (via 𝓤 Asked (snd∗ 𝓤 On Asked) (fourth-fact 𝓤 (κs.1.0 ⊑ S.lives) (κs.1.1.0 ⊑ SK.lives) (κs.1.1.1.0 ⊑ SL.lives) (InOrder a.0.now))) (λ o.
         via 𝓤 On (fst∗ 𝓤 On Asked) (walk 𝓣.C 𝓣.Λ κs qs bounds a.0 o))))
 
-pub of-shelf-spec : {M : Type 1} → stated.statement M
+pub of_shelf_spec : {M : Type 1} → stated.statement M
 unfolding tables_of
-of-shelf-spec 𝓤 𝓛 𝓜 𝓡 wired S SK SL LS LK LL CK CL s ds g dk p dp met-s met-k met-p =
+of_shelf_spec 𝓤 𝓛 𝓜 𝓡 wired S SK SL LS LK LL CK CL s ds g dk cg ck p dp cp cl met-s met-k met-ck met-p met-cp =
     let A = 𝓛.A in
-    let c = F.clauses S SK SL s ds g dk p dp 𝓛 𝓜.mem 𝓡.returns in
+    let c = F.clauses S SK SL s ds g dk cg ck p dp cp cl 𝓛 𝓜.mem 𝓡.returns in
     let 𝓣 : Tables 𝓤 𝓛.H = tables_of 𝓤 𝓛.H 𝓜 (tables 𝓤 𝓛.H 𝓜 𝓡 𝓡.env) in
-    let e : Ended = ended S SK SL s ds g dk p dp in
-    entered 𝓤 𝓛.H (triple_of 𝓛 e.signature (closing 𝓛 e c)) 𝓣.C 𝓣.Λ (#self (args S SK SL s ds g dk p dp)) (fn' S SK SL s ds g dk p dp) (code.unfolded 𝓤 𝓛.H 𝓜 𝓡 wired (S, (SK, (SL, tt))) ds dk dp)
-    (meets S SK SL s ds g dk p dp 𝓛 𝓜.mem 𝓡.returns 𝓣)
+    let e : Ended = ended S SK SL s ds g dk cg ck p dp cp cl in
+    entered 𝓤 𝓛.H (triple_of 𝓛 e.signature (closing 𝓛 e c)) 𝓣.C 𝓣.Λ (#self (args S SK SL s ds g dk cg ck p dp cp cl)) (fn' S SK SL s ds g dk cg ck p dp cp cl) (code.unfolded 𝓤 𝓛.H 𝓜 𝓡 wired (S, (SK, (SL, tt))) ds dk ck dp cl)
+    (meets S SK SL s ds g dk cg ck p dp cp cl 𝓛 𝓜.mem 𝓡.returns 𝓣)
