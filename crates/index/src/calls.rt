@@ -43,8 +43,8 @@ impl<'m, K: KeyOrder, P: Payload> Index<'m, K, P> {
     // Takes the lists of a shelf in the place of those it held, or refuses. Every question is asked before anything is
     // written.
     pub fn build<S: Shelf<Key = K, Payload = P>>(&mut self, shelf: &S) -> Result<(), Fault>
-        ensures answer { result ≡ unless (build_fault order (key_tree (meaning shelf.now)) (sizes_of (machine_of self.old))) tt }
-        ensures after { machine_of self.new ≡ after_build order (machine_of self.old) (meaning shelf.now) }
+        ensures answer { result ≡ unless (build_fault K.order (key_tree (S.meaning shelf.now)) (sizes_of (machine_of self.old))) tt }
+        ensures after { machine_of self.new ≡ after_build K.order (machine_of self.old) (S.meaning shelf.now) }
     {
         let table = plan(shelf)?;
         let keys = self.memory.keys.len();
@@ -68,7 +68,7 @@ impl<'m, K: KeyOrder, P: Payload> Index<'m, K, P> {
     // Joins a payload to the entry at a place of a list, or refuses: no such list, then no such place.
     pub fn amend(&mut self, list: usize, place: usize, by: P) -> Result<(), Fault>
         ensures answer { result ≡ unless (place_fault (key_tree (machine_of self.old).register) list place) tt }
-        ensures after { machine_of self.new ≡ after_amend joined (machine_of self.old) list place by }
+        ensures after { machine_of self.new ≡ after_amend P.joined (machine_of self.old) list place by }
     {
         if list >= self.table.len {
             return Err(Fault::new(Reason::NoSuchList, list, 0));
@@ -83,8 +83,8 @@ impl<'m, K: KeyOrder, P: Payload> Index<'m, K, P> {
 
     // Where a key stands in each list from the root to an end list, or the refusal: no such list.
     pub fn look_up(&self, list: usize, key: &K, side: Side) -> Result<Lookup, Fault>
-        ensures answer { map_ok lookup_read result ≡ look_up_answer order (machine_of self.now).register list side key.now }
-        ensures counts { IfOk result (λ l. LookupCounts order (key_tree (machine_of self.now).register) list side key.now l.comparisons) }
+        ensures answer { map_ok lookup_read result ≡ look_up_answer K.order (machine_of self.now).register list side key.now }
+        ensures counts { IfOk result (λ l. LookupCounts K.order (key_tree (machine_of self.now).register) list side key.now l.comparisons) }
     {
         if list >= self.table.len {
             return Err(Fault::new(Reason::NoSuchList, list, 0));
@@ -100,8 +100,8 @@ impl<'m, K: KeyOrder, P: Payload> Index<'m, K, P> {
 
     // All entries from the root to an end list whose key is the same as the given one, or the refusal: no such list.
     pub fn offer(&self, list: usize, key: &K) -> Result<Offer<P>, Fault>
-        ensures answer { map_ok offer_read result ≡ offer_answer order neutral joined (machine_of self.now).register list key.now }
-        ensures counts { IfOk result (λ o. OfferCounts order (key_tree (machine_of self.now).register) list key.now o.comparisons) }
+        ensures answer { map_ok offer_read result ≡ offer_answer K.order P.neutral P.joined (machine_of self.now).register list key.now }
+        ensures counts { IfOk result (λ o. OfferCounts K.order (key_tree (machine_of self.now).register) list key.now o.comparisons) }
     {
         if list >= self.table.len {
             return Err(Fault::new(Reason::NoSuchList, list, 0));
@@ -118,9 +118,9 @@ impl<'m, K: KeyOrder, P: Payload> Index<'m, K, P> {
     // A range over the slots a to b and the keys low to high, or the refusal: not the sieve's lists, then slots out of
     // order or above 63, then low above high. That last comparison is not one of the search, and is not counted.
     pub fn range(&self, a: usize, b: usize, low: &K, high: &K) -> Result<Range<P>, Fault>
-        ensures answer { map_ok range_read result ≡ range_answer order neutral joined (machine_of self.now).register a b low.now high.now }
-        ensures counts { IfOk result (λ x. RangeCounts order (key_tree (machine_of self.now).register) a b low.now high.now x.comparisons) }
-        ensures points { IfOk result (λ x. HoldRectangle order (machine_of self.now).register a b low.now high.now (take x.used x.spans)) }
+        ensures answer { map_ok range_read result ≡ range_answer K.order P.neutral P.joined (machine_of self.now).register a b low.now high.now }
+        ensures counts { IfOk result (λ x. RangeCounts K.order (key_tree (machine_of self.now).register) a b low.now high.now x.comparisons) }
+        ensures points { IfOk result (λ x. HoldRectangle K.order (machine_of self.now).register a b low.now high.now (take x.used x.spans)) }
     {
         if !is_sieve(&self.table) {
             return Err(Fault::new(Reason::NotSieved, 0, 0));
@@ -142,7 +142,7 @@ impl<'m, K: KeyOrder, P: Payload> Index<'m, K, P> {
 
     // What holds of every index.
     pub fn sound(&self)
-        ensures { Sound order (machine_of self.now) }
+        ensures { Sound K.order (machine_of self.now) }
     {
         known(&self.layout);
     }

@@ -15,10 +15,10 @@ use std::mem;
 impl<'m, K: KeyOrder, P: Payload> Memory<'m, K, P> {
     // Lays the lists of a shelf down from the starts of the memories. What lies behind stays.
     pub(crate) fn lay_down<S: Shelf<Key = K, Payload = P>>(&mut self, shelf: &S, table: &ListTable)
-        requires { CanLay order (key_tree (meaning shelf.now)) table.now (length self.old.keys.now) (length self.old.rows.now) (length self.old.payloads.now) }
-        ensures keys { self.new.keys.now ≡ keys_laid (augmented_lists order (key_tree (meaning shelf.now))) ++ drop (all_augmented order (key_tree (meaning shelf.now))) self.old.keys.now }
-        ensures rows { self.new.rows.now ≡ rows_laid (augmented_lists order (key_tree (meaning shelf.now))) ++ drop (all_augmented order (key_tree (meaning shelf.now)) + length (key_tree (meaning shelf.now))) self.old.rows.now }
-        ensures payloads { self.new.payloads.now ≡ payloads_laid (meaning shelf.now) ++ drop (all_keys (key_tree (meaning shelf.now))) self.old.payloads.now }
+        requires { CanLay K.order (key_tree (S.meaning shelf.now)) table.now (length self.old.keys.now) (length self.old.rows.now) (length self.old.payloads.now) }
+        ensures keys { self.new.keys.now ≡ keys_laid (augmented_lists K.order (key_tree (S.meaning shelf.now))) ++ drop (all_augmented K.order (key_tree (S.meaning shelf.now))) self.old.keys.now }
+        ensures rows { self.new.rows.now ≡ rows_laid (augmented_lists K.order (key_tree (S.meaning shelf.now))) ++ drop (all_augmented K.order (key_tree (S.meaning shelf.now)) + length (key_tree (S.meaning shelf.now))) self.old.rows.now }
+        ensures payloads { self.new.payloads.now ≡ payloads_laid (S.meaning shelf.now) ++ drop (all_keys (key_tree (S.meaning shelf.now))) self.old.payloads.now }
     {
         // The slices are taken out and put back: two fields behind one reference cannot be lent at the same time.
         let keys = mem::replace(&mut self.keys, &mut []);

@@ -8,7 +8,7 @@ use orders::Payload;
 // Joins a payload to the one at a place.
 fn join_at<P: Payload>(payloads: &mut [P], place: usize, by: P)
     requires { place < length payloads.old }
-    ensures { payloads.new ≡ changed_at (λ x. joined x by) place payloads.old }
+    ensures { payloads.new ≡ changed_at (λ x. P.joined x by) place payloads.old }
 {
     payloads[place] = payloads[place].join(by);
 }
@@ -19,7 +19,7 @@ impl<'m, K, P: Payload> Memory<'m, K, P> {
         requires { place < length self.old.payloads.now }
         ensures keys { self.new.keys.now ≡ self.old.keys.now }
         ensures rows { self.new.rows.now ≡ self.old.rows.now }
-        ensures payloads { self.new.payloads.now ≡ changed_at (λ x. joined x by) place self.old.payloads.now }
+        ensures payloads { self.new.payloads.now ≡ changed_at (λ x. P.joined x by) place self.old.payloads.now }
     {
         join_at(self.payloads, place, by);
     }

@@ -22,9 +22,9 @@ fn put<T: Copy>(out: &mut [T], at: usize, item: T)
 impl<'m, K: KeyOrder, P: Payload> Index<'m, K, P> {
     // Carries one call out.
     pub fn carry_out<S: Shelf<Key = K, Payload = P>>(&mut self, request: &Request<S>) -> Outcome<P>
-        ensures answer { outcome_read result ≡ answer order neutral joined meaning (sizes_of (machine_of self.old)) (machine_of self.old).register request.now }
-        ensures counts { Counted order (machine_of self.old).register request.now result }
-        ensures after { machine_of self.new ≡ after order joined meaning (machine_of self.old) request.now }
+        ensures answer { outcome_read result ≡ answer K.order P.neutral P.joined S.meaning (sizes_of (machine_of self.old)) (machine_of self.old).register request.now }
+        ensures counts { Counted K.order (machine_of self.old).register request.now result }
+        ensures after { machine_of self.new ≡ after K.order P.joined S.meaning (machine_of self.old) request.now }
     {
         match request {
             Request::Build(shelf) => match self.build(*shelf) {
@@ -62,7 +62,7 @@ impl<'m, K: KeyOrder, P: Payload> Index<'m, K, P> {
         outcomes: &mut [Outcome<P>],
     ) -> usize
         ensures count { result ≡ min (length requests.now) (length outcomes.old) }
-        ensures law { Law order neutral joined meaning (machine_of self.old) requests.now outcomes.old outcomes.new (machine_of self.new) }
+        ensures law { Law K.order P.neutral P.joined S.meaning (machine_of self.old) requests.now outcomes.old outcomes.new (machine_of self.new) }
     {
         let count = requests.len().min(outcomes.len());
         self.sound();
@@ -83,7 +83,7 @@ pub fn serve<'m, S: Shelf>(
     requests: &[Request<S>],
     outcomes: &mut [Outcome<S::Payload>],
 ) -> Index<'m, S::Key, S::Payload>
-    ensures { Law S.Key.KeyOrder.order S.Payload.Payload.neutral S.Payload.Payload.joined meaning (blank keys.old rows.old payloads.old) requests.now outcomes.old outcomes.new (machine_of result) }
+    ensures { Law S.Key.order S.Payload.neutral S.Payload.joined S.meaning (blank keys.old rows.old payloads.old) requests.now outcomes.old outcomes.new (machine_of result) }
 {
     let mut index = Index::set_up(keys, rows, payloads);
     let _ = index.run(requests, outcomes);

@@ -27,10 +27,10 @@ pub fn lay_down<S: Shelf>(
     rows: &mut [Row],
     payloads: &mut [S::Payload],
 )
-    requires { CanLay S.Key.KeyOrder.order (key_tree (meaning shelf.now)) table.now (length keys.old) (length rows.old) (length payloads.old) }
-    ensures keys { keys.new ≡ keys_laid (augmented_lists S.Key.KeyOrder.order (key_tree (meaning shelf.now))) ++ drop (all_augmented S.Key.KeyOrder.order (key_tree (meaning shelf.now))) keys.old }
-    ensures rows { rows.new ≡ rows_laid (augmented_lists S.Key.KeyOrder.order (key_tree (meaning shelf.now))) ++ drop (all_augmented S.Key.KeyOrder.order (key_tree (meaning shelf.now)) + length (key_tree (meaning shelf.now))) rows.old }
-    ensures payloads { payloads.new ≡ payloads_laid (meaning shelf.now) ++ drop (all_keys (key_tree (meaning shelf.now))) payloads.old }
+    requires { CanLay S.Key.order (key_tree (S.meaning shelf.now)) table.now (length keys.old) (length rows.old) (length payloads.old) }
+    ensures keys { keys.new ≡ keys_laid (augmented_lists S.Key.order (key_tree (S.meaning shelf.now))) ++ drop (all_augmented S.Key.order (key_tree (S.meaning shelf.now))) keys.old }
+    ensures rows { rows.new ≡ rows_laid (augmented_lists S.Key.order (key_tree (S.meaning shelf.now))) ++ drop (all_augmented S.Key.order (key_tree (S.meaning shelf.now)) + length (key_tree (S.meaning shelf.now))) rows.old }
+    ensures payloads { payloads.new ≡ payloads_laid (S.meaning shelf.now) ++ drop (all_keys (key_tree (S.meaning shelf.now))) payloads.old }
 {
     payloads::lay_payloads(shelf, table, payloads);
     lists::lay_lists(shelf, table, keys, rows);

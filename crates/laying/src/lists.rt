@@ -16,9 +16,9 @@ use shelves::Shelf;
 
 // Lays the keys and the rows of all lists down.
 pub fn lay_lists<S: Shelf>(shelf: &S, table: &ListTable, keys: &mut [S::Key], rows: &mut [Row])
-    requires { CanLay S.Key.KeyOrder.order (key_tree (meaning shelf.now)) table.now (length keys.old) (length rows.old) (all_keys (key_tree (meaning shelf.now))) }
-    ensures keys { keys.new ≡ keys_laid (augmented_lists S.Key.KeyOrder.order (key_tree (meaning shelf.now))) ++ drop (all_augmented S.Key.KeyOrder.order (key_tree (meaning shelf.now))) keys.old }
-    ensures rows { rows.new ≡ rows_laid (augmented_lists S.Key.KeyOrder.order (key_tree (meaning shelf.now))) ++ drop (all_augmented S.Key.KeyOrder.order (key_tree (meaning shelf.now)) + length (key_tree (meaning shelf.now))) rows.old }
+    requires { CanLay S.Key.order (key_tree (S.meaning shelf.now)) table.now (length keys.old) (length rows.old) (all_keys (key_tree (S.meaning shelf.now))) }
+    ensures keys { keys.new ≡ keys_laid (augmented_lists S.Key.order (key_tree (S.meaning shelf.now))) ++ drop (all_augmented S.Key.order (key_tree (S.meaning shelf.now))) keys.old }
+    ensures rows { rows.new ≡ rows_laid (augmented_lists S.Key.order (key_tree (S.meaning shelf.now))) ++ drop (all_augmented S.Key.order (key_tree (S.meaning shelf.now)) + length (key_tree (S.meaning shelf.now))) rows.old }
 {
     for v in (0..table.len).rev() {
         lay_list(shelf, table, v, keys, rows);
@@ -33,11 +33,11 @@ fn lay_list<S: Shelf>(
     keys: &mut [S::Key],
     rows: &mut [Row],
 )
-    requires can { CanLay S.Key.KeyOrder.order (key_tree (meaning shelf.now)) table.now (length keys.old) (length rows.old) (all_keys (key_tree (meaning shelf.now))) }
+    requires can { CanLay S.Key.order (key_tree (S.meaning shelf.now)) table.now (length keys.old) (length rows.old) (all_keys (key_tree (S.meaning shelf.now))) }
     requires inside { list < table.now.len }
-    requires behind { LaidBehind S.Key.KeyOrder.order (key_tree (meaning shelf.now)) list keys.old }
-    ensures keys { keys.new ≡ paste keys.old (start_of S.Key.KeyOrder.order (key_tree (meaning shelf.now)) list) (keys_of (augmented S.Key.KeyOrder.order (key_tree (meaning shelf.now)) list)) (length (augmented S.Key.KeyOrder.order (key_tree (meaning shelf.now)) list)) }
-    ensures rows { rows.new ≡ paste rows.old (start_of S.Key.KeyOrder.order (key_tree (meaning shelf.now)) list + list) (rows_of (augmented S.Key.KeyOrder.order (key_tree (meaning shelf.now)) list)) (length (augmented S.Key.KeyOrder.order (key_tree (meaning shelf.now)) list) + 1) }
+    requires behind { LaidBehind S.Key.order (key_tree (S.meaning shelf.now)) list keys.old }
+    ensures keys { keys.new ≡ paste keys.old (start_of S.Key.order (key_tree (S.meaning shelf.now)) list) (keys_of (augmented S.Key.order (key_tree (S.meaning shelf.now)) list)) (length (augmented S.Key.order (key_tree (S.meaning shelf.now)) list)) }
+    ensures rows { rows.new ≡ paste rows.old (start_of S.Key.order (key_tree (S.meaning shelf.now)) list + list) (rows_of (augmented S.Key.order (key_tree (S.meaning shelf.now)) list)) (length (augmented S.Key.order (key_tree (S.meaning shelf.now)) list) + 1) }
 {
     let run = table.runs[list];
     let children = children_of(table, list);

@@ -23,11 +23,11 @@ pub fn merge<S: Shelf>(
     keys: &mut [S::Key],
     rows: &mut [Row],
 )
-    requires mergeable { Mergeable S.Key.KeyOrder.order (augmented S.Key.KeyOrder.order (key_tree (meaning shelf.now)) list) (keys_at (key_tree (meaning shelf.now)) list) children.now start keys.old }
-    requires whole { count ≡ length (augmented S.Key.KeyOrder.order (key_tree (meaning shelf.now)) list) }
+    requires mergeable { Mergeable S.Key.order (augmented S.Key.order (key_tree (S.meaning shelf.now)) list) (keys_at (key_tree (S.meaning shelf.now)) list) children.now start keys.old }
+    requires whole { count ≡ length (augmented S.Key.order (key_tree (S.meaning shelf.now)) list) }
     requires room { start + list + count < length rows.old }
-    ensures keys { keys.new ≡ paste keys.old start (keys_of (augmented S.Key.KeyOrder.order (key_tree (meaning shelf.now)) list)) count }
-    ensures rows { rows.new ≡ paste rows.old (start + list) (rows_of (augmented S.Key.KeyOrder.order (key_tree (meaning shelf.now)) list)) (count + 1) }
+    ensures keys { keys.new ≡ paste keys.old start (keys_of (augmented S.Key.order (key_tree (S.meaning shelf.now)) list)) count }
+    ensures rows { rows.new ≡ paste rows.old (start + list) (rows_of (augmented S.Key.order (key_tree (S.meaning shelf.now)) list)) (count + 1) }
 {
     let mut row = Row {
         own: 0,

@@ -13,10 +13,10 @@ use shelves::Shelf;
 
 // Lays the payloads of all lists down.
 pub fn lay_payloads<S: Shelf>(shelf: &S, table: &ListTable, payloads: &mut [S::Payload])
-    requires tabled { Tabled (key_tree (meaning shelf.now)) (augmented_lists Key-as-KeyOrder.order (key_tree (meaning shelf.now))) table.now }
+    requires tabled { Tabled (key_tree (S.meaning shelf.now)) (augmented_lists S.Key.order (key_tree (S.meaning shelf.now))) table.now }
     requires few { table.now.len ≤ most_lists }
-    requires room { all_keys (key_tree (meaning shelf.now)) ≤ length payloads.old }
-    ensures { payloads.new ≡ payloads_laid (meaning shelf.now) ++ drop (all_keys (key_tree (meaning shelf.now))) payloads.old }
+    requires room { all_keys (key_tree (S.meaning shelf.now)) ≤ length payloads.old }
+    ensures { payloads.new ≡ payloads_laid (S.meaning shelf.now) ++ drop (all_keys (key_tree (S.meaning shelf.now))) payloads.old }
 {
     for v in 0..table.len {
         let run = table.runs[v];
@@ -32,8 +32,8 @@ fn lay_list_payloads<S: Shelf>(
     count: usize,
     payloads: &mut [S::Payload],
 )
-    requires { (count ≡ length (payloads_at (meaning shelf.now) list)) × (first + count ≤ length payloads.old) }
-    ensures { payloads.new ≡ paste payloads.old first (payloads_at (meaning shelf.now) list) count }
+    requires { (count ≡ length (payloads_at (S.meaning shelf.now) list)) × (first + count ≤ length payloads.old) }
+    ensures { payloads.new ≡ paste payloads.old first (payloads_at (S.meaning shelf.now) list) count }
 {
     for i in 0..count {
         if let Some(entry) = shelf.entry(list, i) {

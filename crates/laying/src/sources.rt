@@ -18,7 +18,7 @@ const SOURCES: usize = MOST_CHILDREN + 1;
 
 // The key behind the first `taken` ones of a list.
 fn own_key<S: Shelf>(shelf: &S, list: usize, taken: usize) -> Option<S::Key>
-    ensures { result ≡ slice_get (keys_at (key_tree (meaning shelf.now)) list) taken }
+    ensures { result ≡ slice_get (keys_at (key_tree (S.meaning shelf.now)) list) taken }
 {
     match shelf.entry(list, taken) {
         Some(entry) => Some(entry.key),
@@ -45,7 +45,7 @@ fn lesser_head<K: KeyOrder>(
     source: usize,
     best: Option<(usize, K)>,
 ) -> Option<(usize, K)>
-    ensures { result ≡ lesser order head source best }
+    ensures { result ≡ lesser K.order head source best }
 {
     match (head, best) {
         (None, _) => best,
@@ -70,7 +70,7 @@ fn head<S: Shelf>(
     source: usize,
 ) -> Option<S::Key>
     requires { (source < source_count) × (RunsWithin children.now (length keys.now)) }
-    ensures { result ≡ head_of (keys_at (key_tree (meaning shelf.now)) list) children.now keys.now row.now source }
+    ensures { result ≡ head_of (keys_at (key_tree (S.meaning shelf.now)) list) children.now keys.now row.now source }
 {
     if source == 0 {
         own_key(shelf, list, row.own as usize)
@@ -92,7 +92,7 @@ pub fn least<S: Shelf>(
     row: &Row,
 ) -> Option<(usize, S::Key)>
     requires { RunsWithin children.now (length keys.now) }
-    ensures { result ≡ least_head S.Key.KeyOrder.order (head_of (keys_at (key_tree (meaning shelf.now)) list) children.now keys.now row.now) source_count }
+    ensures { result ≡ least_head S.Key.order (head_of (keys_at (key_tree (S.meaning shelf.now)) list) children.now keys.now row.now) source_count }
 {
     let mut best: Option<(usize, S::Key)> = None;
     for source in 0..SOURCES {

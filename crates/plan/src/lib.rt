@@ -22,7 +22,7 @@ mod tabling;
 
 // Asks every question about the lists of a shelf, and gives the table of the runs that they take in memory.
 pub fn plan<S: Shelf>(shelf: &S) -> Result<ListTable, Fault>
-    ensures { Plans Key-as-KeyOrder.order (key_tree (meaning shelf.now)) result }
+    ensures { Plans S.Key.order (key_tree (S.meaning shelf.now)) result }
 {
     let columns = measure(shelf)?;
     ask_order(shelf, columns.len)?;

@@ -10,7 +10,7 @@ use shelves::Shelf;
 
 // Asks every question about the lists of a shelf besides the order of their keys, and gives the lists' numbers.
 pub fn measure<S: Shelf>(shelf: &S) -> Result<Columns, Fault>
-    ensures { Measures (key_tree (meaning shelf.now)) result }
+    ensures { Measures (key_tree (S.meaning shelf.now)) result }
 {
     let len = shelf.lists();
     ask_count(len)?;

@@ -14,7 +14,7 @@ const SAMPLING_STEP: usize = 4;
 
 // The parent of each list.
 pub fn parents_of<S: Shelf>(shelf: &S) -> Column
-    ensures { Filled most_lists (parent_of (key_tree (meaning shelf.now))) result }
+    ensures { Filled most_lists (parent_of (key_tree (S.meaning shelf.now))) result }
 {
     let mut parents = [0; MOST_LISTS];
     for v in 0..MOST_LISTS {
@@ -25,7 +25,7 @@ pub fn parents_of<S: Shelf>(shelf: &S) -> Column
 
 // How many entries each list has.
 pub fn counts_of<S: Shelf>(shelf: &S) -> Column
-    ensures { Filled most_lists (λ v. length (keys_at (key_tree (meaning shelf.now)) v)) result }
+    ensures { Filled most_lists (λ v. length (keys_at (key_tree (S.meaning shelf.now)) v)) result }
 {
     let mut counts = [0; MOST_LISTS];
     for v in 0..MOST_LISTS {

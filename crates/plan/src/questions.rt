@@ -88,14 +88,14 @@ pub fn ask_entries(len: usize, counts: &Column) -> Result<(), Fault>
 
 // Whether a key is below another.
 fn is_below<K: KeyOrder>(key: &K, other: &K) -> bool
-    ensures { result ≡ is_lt (order key.now other.now) }
+    ensures { result ≡ is_lt (K.order key.now other.now) }
 {
     key.compare(other).is_lt()
 }
 
 // Is every key of a list not below the one before it?
 fn ask_list_order<S: Shelf>(shelf: &S, list: usize) -> Result<(), Fault>
-    ensures { result ≡ unless (option_map (λ p. fault KeyOutOfOrder list p) (descent Key-as-KeyOrder.order (keys_at (key_tree (meaning shelf.now)) list))) tt }
+    ensures { result ≡ unless (option_map (λ p. fault KeyOutOfOrder list p) (descent S.Key.order (keys_at (key_tree (S.meaning shelf.now)) list))) tt }
 {
     let Some(first) = shelf.entry(list, 0) else {
         return Ok(());
@@ -114,8 +114,8 @@ fn ask_list_order<S: Shelf>(shelf: &S, list: usize) -> Result<(), Fault>
 
 // Is every list in order?
 pub fn ask_order<S: Shelf>(shelf: &S, len: usize) -> Result<(), Fault>
-    requires { len ≡ length (meaning shelf.now) }
-    ensures { result ≡ unless (order_fault Key-as-KeyOrder.order (key_tree (meaning shelf.now))) tt }
+    requires { len ≡ length (S.meaning shelf.now) }
+    ensures { result ≡ unless (order_fault S.Key.order (key_tree (S.meaning shelf.now))) tt }
 {
     for v in 0..len {
         ask_list_order(shelf, v)?;

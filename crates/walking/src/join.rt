@@ -10,7 +10,7 @@ use register::answers::Span;
 
 // A payload joined with all of a part of payload memory.
 fn join_all<P: Payload>(payloads: &[P], start: P) -> P
-    ensures { result ≡ fold joined start payloads.now }
+    ensures { result ≡ fold P.joined start payloads.now }
 {
     let mut all = start;
     for (_, payload) in payloads.iter().enumerate() {
@@ -22,8 +22,8 @@ fn join_all<P: Payload>(payloads: &[P], start: P) -> P
 impl<'a, K: KeyOrder> Cascade<'a, K> {
     // The number of the entries in spans, and their joined payload.
     pub(crate) fn join_spans<P: Payload>(self, payloads: &[P], spans: &[Span]) -> (usize, P)
-        requires { Spanned order self (length payloads.now) spans.now }
-        ensures { (t : KeyTree K) → LaidIn order self.entry t → ((i : ℕ) → i < length spans.now → (slice_index_or spans.now i no_span).list < length t) → result ≡ (length (spans_payloads t payloads.now spans.now), fold joined neutral (spans_payloads t payloads.now spans.now)) }
+        requires { Spanned K.order self (length payloads.now) spans.now }
+        ensures { (t : KeyTree K) → LaidIn K.order self.entry t → ((i : ℕ) → i < length spans.now → (slice_index_or spans.now i no_span).list < length t) → result ≡ (length (spans_payloads t payloads.now spans.now), fold P.joined P.neutral (spans_payloads t payloads.now spans.now)) }
     {
         let mut entries = 0;
         let mut payload = P::neutral_payload();

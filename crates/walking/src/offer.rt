@@ -37,8 +37,8 @@ fn spans_between(low: &Lookup, high: &Lookup) -> [Span; MOST_STOPS]
 impl<'a, K: KeyOrder> Cascade<'a, K> {
     // An offer at list `end`: a low and a high lookup, and what lies between them.
     pub fn offer<P: Payload>(self, payloads: &[P], end: usize, key: &K) -> Offer<P>
-        requires { Offerable order self.table.now self.keys.now self.rows.now (length payloads.now) end }
-        ensures { (t : KeyTree K) → Laid order t self.entry.table.now self.entry.keys.now self.entry.rows.now → end < length t → all_keys t ≤ length payloads.now → result ≡ offered_at order neutral joined t payloads.now end key.now }
+        requires { Offerable K.order self.table.now self.keys.now self.rows.now (length payloads.now) end }
+        ensures { (t : KeyTree K) → Laid K.order t self.entry.table.now self.entry.keys.now self.entry.rows.now → end < length t → all_keys t ≤ length payloads.now → result ≡ offered_at K.order P.neutral P.joined t payloads.now end key.now }
     {
         let (path, from) = self.path_to(end);
         let lists = &path[from..MOST_STOPS];

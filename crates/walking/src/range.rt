@@ -22,8 +22,8 @@ use shelves::slots::SIEVE_LISTS;
 impl<'a, K: KeyOrder> Cascade<'a, K> {
     // The augmented places of both sides in the root, and the comparisons to find them.
     fn root_sides(self, low: &K, high: &K) -> ((usize, usize), usize)
-        requires { WalkableIn order self 0 }
-        ensures { WhereLaid order self.entry 0 (λ t. result ≡ both_sides (root_arrival order t Low low.now) (root_arrival order t High high.now)) }
+        requires { WalkableIn K.order self 0 }
+        ensures { WhereLaid K.order self.entry 0 (λ t. result ≡ both_sides (root_arrival K.order t Low low.now) (root_arrival K.order t High high.now)) }
     {
         let (first, n) = self.at_root(low, Side::Low);
         let (after, m) = self.at_root(high, Side::High);
@@ -38,8 +38,8 @@ impl<'a, K: KeyOrder> Cascade<'a, K> {
         low: &K,
         high: &K,
     ) -> ((usize, usize), usize)
-        requires { (Below order self list above.0) × (Below order self list above.1) }
-        ensures { WhereLaid order self.entry list (λ t. 0 < list → above.0 ≤ length (augmented order t (parent_of t list)) → above.1 ≤ length (augmented order t (parent_of t list)) → result ≡ both_sides (edge_arrival order t Low low.now list above.0) (edge_arrival order t High high.now list above.1)) }
+        requires { (Below K.order self list above.0) × (Below K.order self list above.1) }
+        ensures { WhereLaid K.order self.entry list (λ t. 0 < list → above.0 ≤ length (augmented K.order t (parent_of t list)) → above.1 ≤ length (augmented K.order t (parent_of t list)) → result ≡ both_sides (edge_arrival K.order t Low low.now list above.0) (edge_arrival K.order t High high.now list above.1)) }
     {
         let (first, n) = self.step_into(list, above.0, low, Side::Low);
         let (after, m) = self.step_into(list, above.1, high, Side::High);
@@ -48,9 +48,9 @@ impl<'a, K: KeyOrder> Cascade<'a, K> {
 
     // The augmented places of both sides in each visited list, and the comparisons to find them.
     fn survey(self, a: usize, b: usize, low: &K, high: &K) -> ([(usize, usize); SIEVE_LISTS], usize)
-        requires { Sieved order self a b }
+        requires { Sieved K.order self a b }
         ensures result_len { length result.0 ≡ 127 }
-        ensures where_sieve { WhereSieve order self.entry (λ t. PlacesOf order t a b low.now high.now result.0 × (result.1 ≡ range_comparisons order t a b low.now high.now)) }
+        ensures where_sieve { WhereSieve K.order self.entry (λ t. PlacesOf K.order t a b low.now high.now result.0 × (result.1 ≡ range_comparisons K.order t a b low.now high.now)) }
     {
         let mut places = [(0usize, 0usize); SIEVE_LISTS];
         let (root, mut comparisons) = self.root_sides(low, high);
@@ -72,8 +72,8 @@ impl<'a, K: KeyOrder> Cascade<'a, K> {
         b: usize,
         places: &[(usize, usize)],
     ) -> ([Span; MOST_SPANS], usize)
-        requires { Surveyed order self a b places.now }
-        ensures { WhereSieve order self.entry (λ t. (low high : K) → PlacesOf order t a b low high places.now → ◌≡◌ {A = List Span × ℕ} result (filled_up 10 no_span (ranged_spans order t a b low high), length (ranged_spans order t a b low high))) }
+        requires { Surveyed K.order self a b places.now }
+        ensures { WhereSieve K.order self.entry (λ t. (low high : K) → PlacesOf K.order t a b low high places.now → ◌≡◌ {A = List Span × ℕ} result (filled_up 10 no_span (ranged_spans K.order t a b low high), length (ranged_spans K.order t a b low high))) }
     {
         let mut spans = [Span {
             list: 0,
@@ -104,8 +104,8 @@ impl<'a, K: KeyOrder> Cascade<'a, K> {
         low: &K,
         high: &K,
     ) -> Range<P>
-        requires { Rangeable order self.table.now self.keys.now self.rows.now (length payloads.now) a b low.now high.now }
-        ensures { (t : KeyTree K) → Laid order t self.entry.table.now self.entry.keys.now self.entry.rows.now → SieveShaped t → all_keys t ≤ length payloads.now → result ≡ ranged_at order neutral joined t payloads.now a b low.now high.now }
+        requires { Rangeable K.order self.table.now self.keys.now self.rows.now (length payloads.now) a b low.now high.now }
+        ensures { (t : KeyTree K) → Laid K.order t self.entry.table.now self.entry.keys.now self.entry.rows.now → SieveShaped t → all_keys t ≤ length payloads.now → result ≡ ranged_at K.order P.neutral P.joined t payloads.now a b low.now high.now }
     {
         let (places, comparisons) = self.survey(a, b, low, high);
         let (spans, used) = self.chosen_spans(a, b, &places);

@@ -15,7 +15,7 @@ const MOST_STEPS: usize = 3;
 
 // Whether a key is passed on the way to a sought key.
 fn is_passed<K: KeyOrder>(key: &K, sought: &K, side: Side) -> bool
-    ensures { result ≡ passed order side sought.now key.now }
+    ensures { result ≡ passed K.order side sought.now key.now }
 {
     let order = key.compare(sought);
     match side {
@@ -26,7 +26,7 @@ fn is_passed<K: KeyOrder>(key: &K, sought: &K, side: Side) -> bool
 
 // The root search, by halving.
 pub fn root_search<K: KeyOrder>(keys: &[K], sought: &K, side: Side) -> (usize, usize)
-    ensures { result ≡ root_search (passed order side sought.now) keys.now }
+    ensures { result ≡ root_search (passed K.order side sought.now) keys.now }
 {
     let mut lo = 0;
     let mut hi = keys.len();
@@ -45,7 +45,7 @@ pub fn root_search<K: KeyOrder>(keys: &[K], sought: &K, side: Side) -> (usize, u
 
 // The step along an edge: `samples` of the list's samples are passed, so the place is at most three keys behind them.
 pub fn edge_step<K: KeyOrder>(keys: &[K], samples: u32, sought: &K, side: Side) -> (usize, usize)
-    ensures { result ≡ edge_step (passed order side sought.now) samples keys.now }
+    ensures { result ≡ edge_step (passed K.order side sought.now) samples keys.now }
 {
     let from = SAMPLE_STEP * samples as usize;
     for n in 0..MOST_STEPS {

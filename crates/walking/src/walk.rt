@@ -26,8 +26,8 @@ pub struct Cascade<'a, K> {
 impl<'a, K: KeyOrder> Cascade<'a, K> {
     // The keys of a list's augmented list.
     fn keys_of(self, list: usize) -> &'a [K]
-        requires { WalkableIn order self list }
-        ensures { WhereLaid order self.entry list (λ t. result.now ≡ keys_of (augmented order t list)) }
+        requires { WalkableIn K.order self list }
+        ensures { WhereLaid K.order self.entry list (λ t. result.now ≡ keys_of (augmented K.order t list)) }
     {
         let run = self.table.runs[list];
         let start = run.start;
@@ -37,32 +37,32 @@ impl<'a, K: KeyOrder> Cascade<'a, K> {
 
     // The row of a list's augmented place.
     fn row(self, list: usize, place: usize) -> Row
-        requires { Placed order self list place }
-        ensures { WhereLaid order self.entry list (λ t. place ≤ length (augmented order t list) → result ≡ row_at place (augmented order t list)) }
+        requires { Placed K.order self list place }
+        ensures { WhereLaid K.order self.entry list (λ t. place ≤ length (augmented K.order t list) → result ≡ row_at place (augmented K.order t list)) }
     {
         self.rows[self.table.runs[list].start + list + place]
     }
 
     // The place in a list at its augmented place: how many of the keys in front are its own.
     pub(crate) fn own_place(self, list: usize, place: usize) -> usize
-        requires { Placed order self list place }
-        ensures { WhereLaid order self.entry list (λ t. place ≤ length (augmented order t list) → result ≡ tally own_source place (augmented order t list)) }
+        requires { Placed K.order self list place }
+        ensures { WhereLaid K.order self.entry list (λ t. place ≤ length (augmented K.order t list) → result ≡ tally own_source place (augmented K.order t list)) }
     {
         self.row(list, place).own as usize
     }
 
     // The augmented place in the root, and the comparisons to find it.
     pub(crate) fn at_root(self, key: &K, side: Side) -> (usize, usize)
-        requires { WalkableIn order self 0 }
-        ensures { WhereLaid order self.entry 0 (λ t. result ≡ root_arrival order t side key.now) }
+        requires { WalkableIn K.order self 0 }
+        ensures { WhereLaid K.order self.entry 0 (λ t. result ≡ root_arrival K.order t side key.now) }
     {
         root_search(self.keys_of(0), key, side)
     }
 
     // The augmented place in a list, from the one in its parent, and the comparisons to find it.
     pub(crate) fn step_into(self, list: usize, above: usize, key: &K, side: Side) -> (usize, usize)
-        requires { Below order self list above }
-        ensures { WhereLaid order self.entry list (λ t. 0 < list → above ≤ length (augmented order t (parent_of t list)) → result ≡ edge_arrival order t side key.now list above) }
+        requires { Below K.order self list above }
+        ensures { WhereLaid K.order self.entry list (λ t. 0 < list → above ≤ length (augmented K.order t (parent_of t list)) → result ≡ edge_arrival K.order t side key.now list above) }
     {
         let run = self.table.runs[list];
         let row = self.row(run.parent, above);
@@ -71,9 +71,9 @@ impl<'a, K: KeyOrder> Cascade<'a, K> {
 
     // The lists from the root to a list: they stand from a place on to the end of an array.
     pub(crate) fn path_to(self, end: usize) -> ([usize; MOST_STOPS], usize)
-        requires { WalkableIn order self end }
+        requires { WalkableIn K.order self end }
         ensures result_bound { result.1 ≤ 9 }
-        ensures where_laid { WhereLaid order self.entry end (λ t. take (9 - result.1) (drop result.1 result.0) ≡ path t end) }
+        ensures where_laid { WhereLaid K.order self.entry end (λ t. take (9 - result.1) (drop result.1 result.0) ≡ path t end) }
     {
         let mut lists = [0; MOST_STOPS];
         let mut from = MOST_STOPS - 1;
@@ -89,8 +89,8 @@ impl<'a, K: KeyOrder> Cascade<'a, K> {
 
     // A lookup along the lists of a path.
     pub(crate) fn walk(self, lists: &[usize], key: &K, side: Side) -> Lookup
-        requires { Along order self lists.now }
-        ensures { (t : KeyTree K) (end : ℕ) → LaidIn order self.entry t → end < length t → lists.now ≡ path t end → result ≡ looked_up order t end side key.now }
+        requires { Along K.order self lists.now }
+        ensures { (t : KeyTree K) (end : ℕ) → LaidIn K.order self.entry t → end < length t → lists.now ≡ path t end → result ≡ looked_up K.order t end side key.now }
     {
         let mut stops = [Stop { list: 0, place: 0 }; MOST_STOPS];
         let (mut at, mut comparisons) = self.at_root(key, side);
@@ -117,8 +117,8 @@ impl<'a, K: KeyOrder> Cascade<'a, K> {
 
     // A lookup: from the root to list `end`, each list with the place of the key in it.
     pub fn look_up(self, end: usize, key: &K, side: Side) -> Lookup
-        requires { Walkable order self.table.now self.keys.now self.rows.now end }
-        ensures { (t : KeyTree K) → Laid order t self.entry.table.now self.entry.keys.now self.entry.rows.now → end < length t → result ≡ looked_up order t end side key.now }
+        requires { Walkable K.order self.table.now self.keys.now self.rows.now end }
+        ensures { (t : KeyTree K) → Laid K.order t self.entry.table.now self.entry.keys.now self.entry.rows.now → end < length t → result ≡ looked_up K.order t end side key.now }
     {
         let (lists, from) = self.path_to(end);
         self.walk(&lists[from..MOST_STOPS], key, side)

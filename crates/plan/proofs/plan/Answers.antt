@@ -8,31 +8,31 @@ use Rattle.plan.proofs.Planning.{few, smaller-parents, counts-within, lengths-wi
 use Rattle.plan.proofs.Reading.{length-tree}
 use Rattle.plan.proofs.plan.Goals as goal
 
-pub ask-order-requires : goal.ask-order-requires
-ask-order-requires g c = c.in-ok-columns.ensures.1.lists ∙ length-tree (g.S.Shelf.meaning c.args.shelf.now)
+pub ask_order-requires : goal.ask_order-requires
+ask_order-requires g c = c.in_ok-columns.ensures.1.lists ∙ length-tree (g.S.Shelf.meaning c.args.shelf.now)
 
-pub lengths-of-lengths-requires : goal.lengths-of-lengths-requires
-lengths-of-lengths-requires g c =
+pub lengths_of-lengths-requires : goal.lengths_of-lengths-requires
+lengths_of-lengths-requires g c =
     let t = key_tree (g.S.Shelf.meaning c.args.shelf.now) in
-    let m = c.in-ok-columns.ensures in
+    let m = c.in_ok-columns.ensures in
     let s = shaped-by t (shape-parts t m.0) in
-    (few t c.in-ok-columns.columns m.1 s, smaller-parents t c.in-ok-columns.columns m.1 s, counts-within t c.in-ok-columns.columns m.1 s)
+    (few t c.in_ok-columns.columns m.1 s, smaller-parents t c.in_ok-columns.columns m.1 s, counts-within t c.in_ok-columns.columns m.1 s)
 
-pub table-of-requires : goal.table-of-requires
-table-of-requires g c =
+pub table_of-requires : goal.table_of-requires
+table_of-requires g c =
     let t = key_tree (g.S.Shelf.meaning c.args.shelf.now) in
-    let m = c.in-ok-columns.ensures in
+    let m = c.in_ok-columns.ensures in
     let s = shaped-by t (shape-parts t m.0) in
-    let w = counts-within t c.in-ok-columns.columns m.1 s in
-    (few t c.in-ok-columns.columns m.1 s, lengths-within t c.in-ok-columns.columns m.1 s g.Key.KeyOrder.order c.lengths-of-lengths.result c.lengths-of-lengths.ensures, omega arith)
+    let w = counts-within t c.in_ok-columns.columns m.1 s in
+    (few t c.in_ok-columns.columns m.1 s, lengths-within t c.in_ok-columns.columns m.1 s g.Key.KeyOrder.order c.lengths_of-lengths.result c.lengths_of-lengths.ensures, omega arith)
 
 pub returns : goal.returns
 returns g c =
     let t = key_tree (g.S.Shelf.meaning c.args.shelf.now) in
-    let m = c.in-ok-columns.ensures in
+    let m = c.in_ok-columns.ensures in
     let s = shaped-by t (shape-parts t m.0) in
     let o = g.Key.KeyOrder.order in
-    let r = c.table-of.ensures in (
-      sym (lists-asked o t) ∙ or-next (shape_fault t) (order_fault o t) None m.0 (granted-none (order_fault o t) c.in-ok-ask-order.ensures),
-      tabled t c.in-ok-columns.columns m.1 s o c.lengths-of-lengths.result c.lengths-of-lengths.ensures c.table-of.result r.lists r.size r.each,
+    let r = c.table_of.ensures in (
+      sym (lists-asked o t) ∙ or-next (shape_fault t) (order_fault o t) None m.0 (granted-none (order_fault o t) c.in_ok-ask_order.ensures),
+      tabled t c.in_ok-columns.columns m.1 s o c.lengths_of-lengths.result c.lengths_of-lengths.ensures c.table_of.result r.lists r.size r.each,
     )

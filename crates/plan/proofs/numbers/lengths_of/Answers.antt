@@ -7,8 +7,8 @@ use Rattle.plan.proofs.numbers.lengths_of.Goals as goal
 pub loop-v-init : goal.loop-v-init
 loop-v-init c = (omega arith, none-gave c.args.len c.args.parents.now c.args.counts.now, c.requires.2, λ h. h)
 
-pub overflow-add-lengths : goal.overflow-add-lengths
-overflow-add-lengths c =
+pub overflow_add-lengths : goal.overflow_add-lengths
+overflow_add-lengths c =
     let v = c.loop-v.v in
     let e : v ≡ v - 1 + 1 = omega arith in
     let w : sum (take (v - 1 + 1) c.loop-v.lengths) ≤ most_entries = subst (λ n. sum (take n c.loop-v.lengths) ≤ most_entries) e c.loop-v.invariant.2 in

@@ -7,8 +7,8 @@ use Rattle.plan.proofs.numbers.ordinals_of.Goals as goal
 pub loop-v-init : goal.loop-v-init
 loop-v-init c = (refl, refl, ordinals-none c.args.parents.now, children-none c.args.parents.now)
 
-pub overflow-add-children : goal.overflow-add-children
-overflow-add-children c =
+pub overflow_add-children : goal.overflow_add-children
+overflow_add-children c =
     let ps = c.args.parents.now in
     let v = c.loop-v.v in
     let p : cell ps v < v = c.requires.1 v (omega arith) (omega arith) in

@@ -9,5 +9,5 @@ use Rattle.plan.proofs.numbers.parents_of.Goals as goal
 pub loop-v-preserved : goal.loop-v-preserved
 loop-v-preserved g c =
     let bs = g.S.Shelf.meaning c.args.shelf.now in
-    fill_more 0 (parent_of (key_tree bs)) c.loop-v.parents c.loop-v.v c.unwrap-or.result most_lists (omega arith)
-    (c.unwrap-or.ensures ∙ ap (λ o. unwrap_or o 0) c.parent.ensures ∙ parent-read bs c.loop-v.v) c.loop-v.invariant.0 c.loop-v.invariant.1
+    fill_more 0 (parent_of (key_tree bs)) c.loop-v.parents c.loop-v.v c.unwrap_or.result most_lists (omega arith)
+    (c.unwrap_or.ensures ∙ ap (λ o. unwrap_or o 0) c.parent.ensures ∙ parent-read bs c.loop-v.v) c.loop-v.invariant.0 c.loop-v.invariant.1

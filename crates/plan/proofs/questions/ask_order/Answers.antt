@@ -18,14 +18,14 @@ loop-v-init g c =
     ask-all (λ v. option_map (λ p. fault KeyOutOfOrder v p) (descent o (keys_at (key_tree bs) v))) c.args.len
     ∙ ap (λ (n : ℕ). ask_each (λ v. option_map (λ p. fault KeyOutOfOrder v p) (descent o (keys_at (key_tree bs) v))) (range_with_len 0 n)) (c.requires ∙ sym (length-tree bs))
 
-pub returns-in-err-ask-list-order : goal.returns-in-err-ask-list-order
-returns-in-err-ask-list-order g c =
+pub returns-in_err-ask_list_order : goal.returns-in_err-ask_list_order
+returns-in_err-ask_list_order g c =
     let bs = g.S.Shelf.meaning c.args.shelf.now in
     let o = g.Key.KeyOrder.order in
     let v = c.loop-v.v in
-    let f = c.in-err-ask-list-order.field-0.0 in
-    let p = err_from_is_err_and c.from-residual.result c.from-residual.ensures.1 in
-    let no = refused-some (option_map (λ p. fault KeyOutOfOrder v p) (descent o (keys_at (key_tree bs) v))) f c.in-err-ask-list-order.ensures in
+    let f = c.in_err-ask_list_order.field-0.0 in
+    let p = err_from_is_err_and c.from_residual.result c.from_residual.ensures.1 in
+    let no = refused-some (option_map (λ p. fault KeyOutOfOrder v p) (descent o (keys_at (key_tree bs) v))) f c.in_err-ask_list_order.ensures in
     p.1 ∙ ap (λ e. Err e) p.2
     ∙ refuse (order_fault o (key_tree bs)) f
     (sym c.loop-v.invariant ∙ ask-stop (λ u. option_map (λ p. fault KeyOutOfOrder u p) (descent o (keys_at (key_tree bs) u))) v c.args.len f (omega arith) no)
@@ -35,5 +35,5 @@ loop-v-preserved g c =
     let bs = g.S.Shelf.meaning c.args.shelf.now in
     let o = g.Key.KeyOrder.order in
     let v = c.loop-v.v in
-    let ok = granted-none (option_map (λ p. fault KeyOutOfOrder v p) (descent o (keys_at (key_tree bs) v))) c.in-ok-ask-list-order.ensures in
+    let ok = granted-none (option_map (λ p. fault KeyOutOfOrder v p) (descent o (keys_at (key_tree bs) v))) c.in_ok-ask_list_order.ensures in
     ask-more (λ u. option_map (λ p. fault KeyOutOfOrder u p) (descent o (keys_at (key_tree bs) u))) v c.args.len (omega arith) ok ∙ c.loop-v.invariant

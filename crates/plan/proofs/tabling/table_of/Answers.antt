@@ -6,11 +6,11 @@ use Rattle.plan.specs.declared.table.ListRun.{ListRun}
 use Rattle.plan.proofs.Filling.{fill_more, sum-part}
 use Rattle.plan.proofs.tabling.table_of.Goals as goal
 
-pub overflow-add-start : goal.overflow-add-start
-overflow-add-start c = let p = sum-part c.args.lengths.now c.loop-v.v c.args.columns.now.len (omega arith) (omega arith) in omega arith
+pub overflow_add-start : goal.overflow_add-start
+overflow_add-start c = let p = sum-part c.args.lengths.now c.loop-v.v c.args.columns.now.len (omega arith) (omega arith) in omega arith
 
-pub overflow-add-first : goal.overflow-add-first
-overflow-add-first c = let p = sum-part c.args.columns.now.counts c.loop-v.v c.args.columns.now.len (omega arith) (omega arith) in omega arith
+pub overflow_add-first : goal.overflow_add-first
+overflow_add-first c = let p = sum-part c.args.columns.now.counts c.loop-v.v c.args.columns.now.len (omega arith) (omega arith) in omega arith
 
 pub loop-v-preserved : goal.loop-v-preserved
 loop-v-preserved c =

@@ -10,7 +10,7 @@ returns-in-Ok c =
     let e = between_to_end body 4 (length body) (omega arith) in
     let made = c.in-Ok.ensures in
     let text : text_of c.in-Ok.key ≡ drop 4 body = made.1 ∙ e in
-    let bits = c.number-in-bits.ensures in
+    let bits = c.number_in-bits.ensures in
     let s = entry-said c.args.at body (omega arith) (omega arith) (ap key_fault (sym e) ∙ made.0) in
     cc
 
@@ -19,5 +19,5 @@ returns-in-Err c =
     let body = c.args.body.now in
     let e = between_to_end body 4 (length body) (omega arith) in
     let s = entry-refused c.args.at body c.in-Err.fault (omega arith) (omega arith) (ap key_fault (sym e) ∙ c.in-Err.ensures) in
-    let f = c.with-second.ensures in
+    let f = c.with_second.ensures in
     cc

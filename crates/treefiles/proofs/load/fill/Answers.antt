@@ -29,14 +29,14 @@ loop-next-preserved c =
     c.store.new.lists c.store.new.entries
     (subst (λ (n : Loaded). Stores c.in-Some.item n c.loop-next.lists c.store.new.lists c.loop-next.entries c.store.new.entries) c.loaded.ensures c.store.ensures)
 
-pub returns-in-default-next : goal.returns-in-default-next
-returns-in-default-next c room =
+pub returns-in_default-next : goal.returns-in_default-next
+returns-in_default-next c room =
     let file = c.args.file.now in
     let l = c.loop-next.loader in
-    let e = comes-to-end file l c.loop-next.invariant.run c.next.new.self c.next.result (c.in-Ok.is ∙ ap (λ (o : Option CodeItem). Ok o) c.in-default-next.is) c.next.ensures in
+    let e = comes-to-end file l c.loop-next.invariant.run c.next.new.self c.next.result (c.in-Ok.is ∙ ap (λ (o : Option CodeItem). Ok o) c.in_default-next.is) c.next.ensures in
     holds-all file l c.args.lists.now c.loop-next.lists c.args.entries.now c.loop-next.entries c.loop-next.invariant e.0 room.tree room.holds
 
 pub returns : goal.returns
 returns c room =
-    absurd (not-refused c.args.file.now _ _ room c.in-default.field-0
-    (breaks-off c.args.file.now c.loop-next.loader c.loop-next.invariant.run c.next.new.self c.next.result c.in-default.field-0 c.in-default.is c.next.ensures))
+    absurd (not-refused c.args.file.now _ _ room c.in_default.field-0
+    (breaks-off c.args.file.now c.loop-next.loader c.loop-next.invariant.run c.next.new.self c.next.result c.in_default.field-0 c.in_default.is c.next.ensures))
