@@ -16,7 +16,7 @@ lengths_of-lengths-requires g c =
     let t = key_tree (g.S.Shelf.meaning c.args.shelf.now) in
     let m = c.in_ok-columns.ensures in
     let s = shaped-by t (shape-parts t m.0) in
-    (few t c.in_ok-columns.columns m.1 s, smaller-parents t c.in_ok-columns.columns m.1 s, counts-within t c.in_ok-columns.columns m.1 s)
+    record { len_le_most_lists = few t c.in_ok-columns.columns m.1 s; smaller = smaller-parents t c.in_ok-columns.columns m.1 s; counts_bound = counts-within t c.in_ok-columns.columns m.1 s }
 
 pub table_of-requires : goal.table_of-requires
 table_of-requires g c =
@@ -24,14 +24,14 @@ table_of-requires g c =
     let m = c.in_ok-columns.ensures in
     let s = shaped-by t (shape-parts t m.0) in
     let w = counts-within t c.in_ok-columns.columns m.1 s in
-    (few t c.in_ok-columns.columns m.1 s, lengths-within t c.in_ok-columns.columns m.1 s g.Key.KeyOrder.order c.lengths_of-lengths.result c.lengths_of-lengths.ensures, omega arith)
+    record { len_le_most_lists = few t c.in_ok-columns.columns m.1 s; lengths_bound = lengths-within t c.in_ok-columns.columns m.1 s g.S.Key.KeyOrder.order c.lengths_of-lengths.result c.lengths_of-lengths.ensures; counts_bound = omega arith }
 
 pub returns : goal.returns
 returns g c =
     let t = key_tree (g.S.Shelf.meaning c.args.shelf.now) in
     let m = c.in_ok-columns.ensures in
     let s = shaped-by t (shape-parts t m.0) in
-    let o = g.Key.KeyOrder.order in
+    let o = g.S.Key.KeyOrder.order in
     let r = c.table_of.ensures in (
       sym (lists-asked o t) ∙ or-next (shape_fault t) (order_fault o t) None m.0 (granted-none (order_fault o t) c.in_ok-ask_order.ensures),
       tabled t c.in_ok-columns.columns m.1 s o c.lengths_of-lengths.result c.lengths_of-lengths.ensures c.table_of.result r.lists r.size r.each,

@@ -11,12 +11,12 @@ use Rattle.laying.proofs.lists.lay_list.Goals as goal
 pub children-of-children-requires : goal.children-of-children-requires
 children-of-children-requires g c =
     let t = key_tree (g.S.Shelf.meaning c.args.shelf.now) in
-    (ordinals g.Key.KeyOrder.order g.met.Key.KeyOrder.lawful t c.args.table.now (length c.args.keys.now) (length c.args.rows.now) (all_keys t) c.requires.can, c.requires.inside)
+    (ordinals g.S.Key.KeyOrder.order g.met.S.Key.KeyOrder.lawful t c.args.table.now (length c.args.keys.now) (length c.args.rows.now) (all_keys t) c.requires.can, c.requires.inside)
 
 pub merge-requires : goal.merge-requires
 merge-requires g c =
-    let order = g.Key.KeyOrder.order in
-    let laws = g.met.Key.KeyOrder.lawful in
+    let order = g.S.Key.KeyOrder.order in
+    let laws = g.met.S.Key.KeyOrder.lawful in
     let t = key_tree (g.S.Shelf.meaning c.args.shelf.now) in
     let keys = c.args.keys.now in
     let v = c.args.list in
@@ -37,12 +37,12 @@ merge-requires g c =
 
 pub returns : goal.returns
 returns g c =
-    let order = g.Key.KeyOrder.order in
+    let order = g.S.Key.KeyOrder.order in
     let t = key_tree (g.S.Shelf.meaning c.args.shelf.now) in
     let v = c.args.list in
     let lists = c.requires.can.tabled.lists in
     let xs = augmented order t v in
-    let run = table-run order g.met.Key.KeyOrder.lawful t c.args.table.now (length c.args.keys.now) (length c.args.rows.now) (all_keys t) c.requires.can v (omega arith) in
+    let run = table-run order g.met.S.Key.KeyOrder.lawful t c.args.table.now (length c.args.keys.now) (length c.args.rows.now) (all_keys t) c.requires.can v (omega arith) in
     record {
       keys = c.merge.ensures.keys ∙ ap (λ (r : ListRun). paste c.args.keys.now r.start (keys_of xs) r.length) run;
       rows = c.merge.ensures.rows ∙ ap (λ (r : ListRun). paste c.args.rows.now (r.start + v) (rows_of xs) (r.length + 1)) run;

@@ -14,7 +14,7 @@ use Rattle.laying.proofs.lists.lay_lists.Goals as goal
 
 pub loop-v-init : goal.loop-v-init
 loop-v-init g c =
-    let order = g.Key.KeyOrder.order in
+    let order = g.S.Key.KeyOrder.order in
     let t = key_tree (g.S.Shelf.meaning c.args.shelf.now) in
     let gs = augmented_lists order t in
     let n = c.args.table.now.len in
@@ -27,7 +27,7 @@ loop-v-init g c =
 
 pub lay-list-requires : goal.lay-list-requires
 lay-list-requires g c =
-    let order = g.Key.KeyOrder.order in
+    let order = g.S.Key.KeyOrder.order in
     let t = key_tree (g.S.Shelf.meaning c.args.shelf.now) in
     let v = c.loop-v.v in
     let lists = c.requires.tabled.lists in
@@ -53,7 +53,7 @@ lay-list-requires g c =
 
 pub loop-v-preserved : goal.loop-v-preserved
 loop-v-preserved g c =
-    let order = g.Key.KeyOrder.order in
+    let order = g.S.Key.KeyOrder.order in
     let t = key_tree (g.S.Shelf.meaning c.args.shelf.now) in
     let gs = augmented_lists order t in
     let v = c.loop-v.v in
@@ -78,7 +78,7 @@ loop-v-preserved g c =
 
 pub returns : goal.returns
 returns g c =
-    let order = g.Key.KeyOrder.order in
+    let order = g.S.Key.KeyOrder.order in
     let t = key_tree (g.S.Shelf.meaning c.args.shelf.now) in
     let gs = augmented_lists order t in
     let keys = c.args.keys.now in

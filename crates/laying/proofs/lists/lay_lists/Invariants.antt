@@ -7,7 +7,7 @@ use Rattle.laying.proofs.lists.lay_lists.Given as goal
 
 abbrev pub invariant-loop-v : goal.invariant-loop-v
 invariant-loop-v g l =
-    let order = g.Key.KeyOrder.order in
+    let order = g.S.Key.KeyOrder.order in
     let t = key_tree (g.S.Shelf.meaning l.shelf) in
     let rest = drop l.v (augmented_lists order t) in
     (l.keys ≡ take (start_of order t l.v) l.initial.keys ++ (keys_laid rest ++ drop (all_augmented order t) l.initial.keys))

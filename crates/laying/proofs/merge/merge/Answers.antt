@@ -10,26 +10,26 @@ use Rattle.laying.proofs.merge.merge.Goals.{in-Some, in-default}
 
 pub loop-p-init : goal.loop-p-init
 loop-p-init g c =
-    let xs = augmented g.Key.KeyOrder.order (key_tree (g.S.Shelf.meaning c.args.shelf.now)) c.args.list in
+    let xs = augmented g.S.Key.KeyOrder.order (key_tree (g.S.Shelf.meaning c.args.shelf.now)) c.args.list in
     (paste_none c.args.keys.now c.args.start (keys_of xs), paste_none c.args.rows.now (c.args.start + c.args.list) (rows_of xs), refl)
 
 pub counted-row-requires : goal.counted-row-requires
 counted-row-requires g c =
-    let order = g.Key.KeyOrder.order in
+    let order = g.S.Key.KeyOrder.order in
     let t = key_tree (g.S.Shelf.meaning c.args.shelf.now) in
     let xs = augmented order t c.args.list in
     let whole = c.requires.whole in
     let inside : c.loop-p.p < length xs = omega arith in
     let y : ℕ × g.row.S-Key.Denot = c.in-Some.head in (
-      source_known order g.met.Key.KeyOrder.lawful xs (keys_at t c.args.list) c.args.children.now c.args.start c.args.keys.now c.requires.mergeable
+      source_known order g.met.S.Key.KeyOrder.lawful xs (keys_at t c.args.list) c.args.children.now c.args.start c.args.keys.now c.requires.mergeable
           c.loop-p.p inside c.loop-p.keys c.loop-p.row c.loop-p.invariant.0 c.loop-p.invariant.2 y c.in-Some.ensures,
-      tally-fits order g.met.Key.KeyOrder.lawful xs (keys_at t c.args.list) c.args.children.now c.args.start c.args.keys.now c.requires.mergeable
+      tally-fits order g.met.S.Key.KeyOrder.lawful xs (keys_at t c.args.list) c.args.children.now c.args.start c.args.keys.now c.requires.mergeable
           c.loop-p.p inside c.loop-p.keys c.loop-p.row c.loop-p.invariant.0 c.loop-p.invariant.2 y c.in-Some.ensures,
     )
 
 pub loop-p-preserved : goal.loop-p-preserved
 loop-p-preserved g c =
-    let order = g.Key.KeyOrder.order in
+    let order = g.S.Key.KeyOrder.order in
     let t = key_tree (g.S.Shelf.meaning c.args.shelf.now) in
     let xs = augmented order t c.args.list in
     let whole = c.requires.whole in
@@ -39,23 +39,23 @@ loop-p-preserved g c =
       | in-Some w ↦
           let y : ℕ × g.row.S-Key.Denot = w.in-Some.head in (
             w.keys-is
-                ∙ keys-more order g.met.Key.KeyOrder.lawful xs (keys_at t c.args.list) c.args.children.now c.args.start c.args.keys.now c.requires.mergeable
+                ∙ keys-more order g.met.S.Key.KeyOrder.lawful xs (keys_at t c.args.list) c.args.children.now c.args.start c.args.keys.now c.requires.mergeable
                 c.loop-p.p inside c.loop-p.keys c.loop-p.row c.loop-p.invariant.0 c.loop-p.invariant.2 y w.in-Some.ensures,
             rows,
             w.row-is
                 ∙ w.counted-row.ensures
-                ∙ row_more order g.met.Key.KeyOrder.lawful xs (keys_at t c.args.list) c.args.children.now c.args.start c.args.keys.now c.requires.mergeable
+                ∙ row_more order g.met.S.Key.KeyOrder.lawful xs (keys_at t c.args.list) c.args.children.now c.args.start c.args.keys.now c.requires.mergeable
                 c.loop-p.p inside c.loop-p.keys c.loop-p.row c.loop-p.invariant.0 c.loop-p.invariant.2 y w.in-Some.ensures,
           )
       | in-default w ↦
           absurd
-          (some-least order g.met.Key.KeyOrder.lawful xs (keys_at t c.args.list) c.args.children.now c.args.start c.args.keys.now c.requires.mergeable
+          (some-least order g.met.S.Key.KeyOrder.lawful xs (keys_at t c.args.list) c.args.children.now c.args.start c.args.keys.now c.requires.mergeable
           c.loop-p.p inside c.loop-p.keys c.loop-p.row c.loop-p.invariant.0 c.loop-p.invariant.2 w.in-default.ensures)
     ]
 
 pub returns : goal.returns
 returns g c =
-    let xs = augmented g.Key.KeyOrder.order (key_tree (g.S.Shelf.meaning c.args.shelf.now)) c.args.list in
+    let xs = augmented g.S.Key.KeyOrder.order (key_tree (g.S.Shelf.meaning c.args.shelf.now)) c.args.list in
     let whole = c.requires.whole in
     let at = c.args.start + c.args.list in
     let e : c.loop-p.p ≡ c.args.count = omega arith in

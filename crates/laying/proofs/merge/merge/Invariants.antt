@@ -7,7 +7,7 @@ use Rattle.laying.proofs.merge.merge.Given as goal
 
 abbrev pub invariant-loop-p : goal.invariant-loop-p
 invariant-loop-p g l =
-    let xs = augmented g.Key.KeyOrder.order (key_tree (g.S.Shelf.meaning l.shelf)) l.list in
+    let xs = augmented g.S.Key.KeyOrder.order (key_tree (g.S.Shelf.meaning l.shelf)) l.list in
     (l.keys ≡ paste l.initial.keys l.start (keys_of xs) l.p)
     × (l.rows ≡ paste l.initial.rows (l.start + l.list) (rows_of xs) l.p)
     × (l.row ≡ row_at l.p xs)

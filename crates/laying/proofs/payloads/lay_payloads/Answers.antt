@@ -19,7 +19,7 @@ lay-list-payloads-requires g c =
     let v = c.loop-v.v in
     let lists = c.requires.tabled.lists in
     let l = length-key_tree bs in
-    let run = run-at t (augmented_lists g.Key.KeyOrder.order t) c.args.table.now c.requires.tabled v (omega arith) in
+    let run = run-at t (augmented_lists g.S.Key.KeyOrder.order t) c.args.table.now c.requires.tabled v (omega arith) in
     let first = ap (λ (r : ListRun). r.first) run in
     let count = ap (λ (r : ListRun). r.count) run in
     let s = same-lengths bs v in
@@ -34,7 +34,7 @@ loop-v-preserved g c =
     let v = c.loop-v.v in
     let lists = c.requires.tabled.lists in
     let l = length-key_tree bs in
-    let run = run-at t (augmented_lists g.Key.KeyOrder.order t) c.args.table.now c.requires.tabled v (omega arith) in
+    let run = run-at t (augmented_lists g.S.Key.KeyOrder.order t) c.args.table.now c.requires.tabled v (omega arith) in
     let at = run_of c.args.table.now.runs v in
     c.lay-list-payloads.ensures
     ∙ ap (λ zs. paste zs at.first (payloads_at bs v) at.count) c.loop-v.invariant

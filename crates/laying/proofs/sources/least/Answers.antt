@@ -7,7 +7,7 @@ use Rattle.laying.proofs.sources.least.Goals as goal
 pub loop-source-preserved : goal.loop-source-preserved
 loop-source-preserved g c =
     let heads = head_of (keys_at (key_tree (g.S.Shelf.meaning c.args.shelf.now)) c.args.list) c.args.children.now c.args.keys.now c.args.row.now in
-    let order = g.Key.KeyOrder.order in
+    let order = g.S.Key.KeyOrder.order in
     c.lesser-head-best.ensures
     ∙ ap₂ (λ o b. lesser order o c.loop-source.source b) c.head.ensures c.loop-source.invariant
     ∙ ap (least_head order heads) (sym (add-one c.loop-source.source))
@@ -16,4 +16,4 @@ pub returns : goal.returns
 returns g c =
     let heads = head_of (keys_at (key_tree (g.S.Shelf.meaning c.args.shelf.now)) c.args.list) c.args.children.now c.args.keys.now c.args.row.now in
     let e : c.loop-source.source ≡ 5 = omega arith in
-    c.loop-source.invariant ∙ ap (least_head g.Key.KeyOrder.order heads) e
+    c.loop-source.invariant ∙ ap (least_head g.S.Key.KeyOrder.order heads) e

@@ -6,4 +6,4 @@ use Rattle.laying.proofs.sources.least.Given as goal
 
 abbrev pub invariant-loop-source : goal.invariant-loop-source
 invariant-loop-source g l =
-    l.best ≡ least_head g.Key.KeyOrder.order (head_of (keys_at (key_tree (g.S.Shelf.meaning l.shelf)) l.list) l.children l.keys l.row) l.source
+    l.best ≡ least_head g.S.Key.KeyOrder.order (head_of (keys_at (key_tree (g.S.Shelf.meaning l.shelf)) l.list) l.children l.keys l.row) l.source

@@ -25,7 +25,7 @@ pub depths_of-depths-requires : goal.depths_of-depths-requires
 depths_of-depths-requires g c =
     let t = key_tree (g.S.Shelf.meaning c.args.shelf.now) in
     let len = c.lists-len.ensures ∙ sym (length-tree (g.S.Shelf.meaning c.args.shelf.now)) in
-    (within t c.lists-len.result len c.in_ok-ask_count.ensures c.parents_of-parents.result c.parents_of-parents.ensures, smaller-here t c.lists-len.result len c.in_ok-ask_count.ensures c.parents_of-parents.result c.parents_of-parents.ensures c.in_ok-ask_parents.ensures)
+    record { len_le_most_lists = within t c.lists-len.result len c.in_ok-ask_count.ensures c.parents_of-parents.result c.parents_of-parents.ensures; smaller = smaller-here t c.lists-len.result len c.in_ok-ask_count.ensures c.parents_of-parents.result c.parents_of-parents.ensures c.in_ok-ask_parents.ensures }
 
 pub returns-in_err-ask_depths : goal.returns-in_err-ask_depths
 returns-in_err-ask_depths g c =
@@ -39,7 +39,7 @@ pub ordinals_of-ordinals-requires : goal.ordinals_of-ordinals-requires
 ordinals_of-ordinals-requires g c =
     let t = key_tree (g.S.Shelf.meaning c.args.shelf.now) in
     let len = c.lists-len.ensures ∙ sym (length-tree (g.S.Shelf.meaning c.args.shelf.now)) in
-    (within t c.lists-len.result len c.in_ok-ask_count.ensures c.parents_of-parents.result c.parents_of-parents.ensures, smaller-here t c.lists-len.result len c.in_ok-ask_count.ensures c.parents_of-parents.result c.parents_of-parents.ensures c.in_ok-ask_parents.ensures)
+    record { len_le_most_lists = within t c.lists-len.result len c.in_ok-ask_count.ensures c.parents_of-parents.result c.parents_of-parents.ensures; smaller = smaller-here t c.lists-len.result len c.in_ok-ask_count.ensures c.parents_of-parents.result c.parents_of-parents.ensures c.in_ok-ask_parents.ensures }
 
 pub returns-in_err-ask_children : goal.returns-in_err-ask_children
 returns-in_err-ask_children g c =

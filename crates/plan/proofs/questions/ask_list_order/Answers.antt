@@ -18,7 +18,7 @@ pub returns-in_default : goal.returns-in_default
 returns-in_default g c =
     let bs = g.S.Shelf.meaning c.args.shelf.now in
     let v = c.args.list in
-    let o = g.Key.KeyOrder.order in
+    let o = g.S.Key.KeyOrder.order in
     grant (option_map (λ p. fault KeyOutOfOrder v p) (descent o (keys_at (key_tree bs) v)))
     (ap (λ ks. option_map (λ p. fault KeyOutOfOrder v p) (descent o ks)) (no-entry bs v (λ e h. c.in_default.not-Some e (c.entry.ensures ∙ h))))
 
@@ -26,7 +26,7 @@ pub loop-place-init : goal.loop-place-init
 loop-place-init g c =
     let bs = g.S.Shelf.meaning c.args.shelf.now in
     let v = c.args.list in
-    let o = g.Key.KeyOrder.order in
+    let o = g.S.Key.KeyOrder.order in
     let e = c.in-Some.first in
     from_first o e.key (drop 1 (keys_at (key_tree bs) v)) ∙ ap (descent o) (sym (entry_read bs v 0 e (sym c.entry.ensures ∙ c.in-Some.is)))
 
@@ -34,7 +34,7 @@ pub returns-then-is_below : goal.returns-then-is_below
 returns-then-is_below g c =
     let bs = g.S.Shelf.meaning c.args.shelf.now in
     let v = c.args.list in
-    let o = g.Key.KeyOrder.order in
+    let o = g.S.Key.KeyOrder.order in
     let ks = keys_at (key_tree bs) v in
     let n = c.loop-place.place in
     let e = c.in-Some-entry.entry in
@@ -48,7 +48,7 @@ pub loop-place-preserved : goal.loop-place-preserved
 loop-place-preserved g c =
     let bs = g.S.Shelf.meaning c.args.shelf.now in
     let v = c.args.list in
-    let o = g.Key.KeyOrder.order in
+    let o = g.S.Key.KeyOrder.order in
     let ks = keys_at (key_tree bs) v in
     let n = c.loop-place.place in
     let go : descent_from o (n + 1) c.match-entry-2.before (drop (n + 1) ks) ≡ descent o ks =
@@ -68,7 +68,7 @@ pub returns : goal.returns
 returns g c =
     let bs = g.S.Shelf.meaning c.args.shelf.now in
     let v = c.args.list in
-    let o = g.Key.KeyOrder.order in
+    let o = g.S.Key.KeyOrder.order in
     let ks = keys_at (key_tree bs) v in
     let n = c.loop-place.place in
     let r = count-read bs v in

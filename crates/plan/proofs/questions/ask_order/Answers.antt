@@ -14,14 +14,14 @@ use Rattle.plan.proofs.questions.ask_order.Goals as goal
 pub loop-v-init : goal.loop-v-init
 loop-v-init g c =
     let bs = g.S.Shelf.meaning c.args.shelf.now in
-    let o = g.Key.KeyOrder.order in
+    let o = g.S.Key.KeyOrder.order in
     ask-all (λ v. option_map (λ p. fault KeyOutOfOrder v p) (descent o (keys_at (key_tree bs) v))) c.args.len
     ∙ ap (λ (n : ℕ). ask_each (λ v. option_map (λ p. fault KeyOutOfOrder v p) (descent o (keys_at (key_tree bs) v))) (range_with_len 0 n)) (c.requires ∙ sym (length-tree bs))
 
 pub returns-in_err-ask_list_order : goal.returns-in_err-ask_list_order
 returns-in_err-ask_list_order g c =
     let bs = g.S.Shelf.meaning c.args.shelf.now in
-    let o = g.Key.KeyOrder.order in
+    let o = g.S.Key.KeyOrder.order in
     let v = c.loop-v.v in
     let f = c.in_err-ask_list_order.field-0.0 in
     let p = err_from_is_err_and c.from_residual.result c.from_residual.ensures.1 in
@@ -33,7 +33,7 @@ returns-in_err-ask_list_order g c =
 pub loop-v-preserved : goal.loop-v-preserved
 loop-v-preserved g c =
     let bs = g.S.Shelf.meaning c.args.shelf.now in
-    let o = g.Key.KeyOrder.order in
+    let o = g.S.Key.KeyOrder.order in
     let v = c.loop-v.v in
     let ok = granted-none (option_map (λ p. fault KeyOutOfOrder v p) (descent o (keys_at (key_tree bs) v))) c.in_ok-ask_list_order.ensures in
     ask-more (λ u. option_map (λ p. fault KeyOutOfOrder u p) (descent o (keys_at (key_tree bs) u))) v c.args.len (omega arith) ok ∙ c.loop-v.invariant

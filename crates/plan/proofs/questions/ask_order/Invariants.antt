@@ -10,5 +10,5 @@ use Rattle.plan.proofs.questions.ask_order.Given as goal
 
 abbrev pub invariant-loop-v : goal.invariant-loop-v
 invariant-loop-v g l =
-    ask_from (λ v. option_map (λ p. fault KeyOutOfOrder v p) (descent g.Key.KeyOrder.order (keys_at (key_tree (g.S.Shelf.meaning l.shelf)) v))) l.v l.len
-    ≡ order_fault g.Key.KeyOrder.order (key_tree (g.S.Shelf.meaning l.shelf))
+    ask_from (λ v. option_map (λ p. fault KeyOutOfOrder v p) (descent g.S.Key.KeyOrder.order (keys_at (key_tree (g.S.Shelf.meaning l.shelf)) v))) l.v l.len
+    ≡ order_fault g.S.Key.KeyOrder.order (key_tree (g.S.Shelf.meaning l.shelf))
