@@ -8,8 +8,8 @@ use Rattle.laying.proofs.Sourcing.{start-more, start-all, table-run, ordinals, m
 use Rattle.laying.specs.Merging.{Mergeable}
 use Rattle.laying.proofs.lists.lay_list.Goals as goal
 
-pub children-of-children-requires : goal.children-of-children-requires
-children-of-children-requires g c =
+pub children_of-children-requires : goal.children_of-children-requires
+children_of-children-requires g c =
     let t = key_tree (g.S.Shelf.meaning c.args.shelf.now) in
     (ordinals g.S.Key.KeyOrder.order g.met.S.Key.KeyOrder.lawful t c.args.table.now (length c.args.keys.now) (length c.args.rows.now) (all_keys t) c.requires.can, c.requires.inside)
 
@@ -28,9 +28,9 @@ merge-requires g c =
     let more = start-more order t v inside in
     let all = start-all order t (v + 1) in
     let room = c.requires.can.row_room in
-    let can = mergeable order laws t c.args.table.now (length keys) (length c.args.rows.now) (all_keys t) c.requires.can v inside c.children-of-children.result c.children-of-children.ensures keys refl c.requires.behind in
+    let can = mergeable order laws t c.args.table.now (length keys) (length c.args.rows.now) (all_keys t) c.requires.can v inside c.children_of-children.result c.children_of-children.ensures keys refl c.requires.behind in
     record {
-      mergeable = subst (λ (n : ℕ). Mergeable order (augmented order t v) (keys_at t v) c.children-of-children.result n keys) (sym start) can;
+      mergeable = subst (λ (n : ℕ). Mergeable order (augmented order t v) (keys_at t v) c.children_of-children.result n keys) (sym start) can;
       whole = count;
       room = omega arith;
     }

@@ -25,8 +25,8 @@ loop-v-init g c =
       none-laid rows_of gs c.args.rows.now n (start_of order t n + n) (all_augmented order t + length t) (omega arith) (omega arith),
     )
 
-pub lay-list-requires : goal.lay-list-requires
-lay-list-requires g c =
+pub lay_list-requires : goal.lay_list-requires
+lay_list-requires g c =
     let order = g.S.Key.KeyOrder.order in
     let t = key_tree (g.S.Shelf.meaning c.args.shelf.now) in
     let v = c.loop-v.v in
@@ -68,10 +68,10 @@ loop-v-preserved g c =
     let xs = augmented order t u in
     let keys : length xs ≡ length (keys_of xs) = sym (length-map xs (λ x. x.1)) in
     let rows : length (rows_of xs) ≡ suc (length xs) = length-map-range_with_len (λ p. row_at p xs) 0 (suc (length xs)) in (
-      c.lay-list.ensures.keys
+      c.lay_list.ensures.keys
           ∙ one-laid keys_of gs c.args.keys.now c.loop-v.keys (drop (all_augmented order t) c.args.keys.now) u v (start_of order t u) (start_of order t v) (length xs)
           e (omega arith) more keys (omega arith) c.loop-v.invariant.0,
-      c.lay-list.ensures.rows
+      c.lay_list.ensures.rows
           ∙ one-laid rows_of gs c.args.rows.now c.loop-v.rows (drop (all_augmented order t + length t) c.args.rows.now) u v (start_of order t u + u) (start_of order t v + v) (length xs + 1)
           e (omega arith) (omega arith) (omega arith) (omega arith) c.loop-v.invariant.1,
     )

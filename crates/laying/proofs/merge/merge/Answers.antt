@@ -6,7 +6,7 @@ use Rattle.cascade.specs.Trees.{keys_of, keys_at, augmented}
 use Rattle.layout.specs.KeyTrees.{key_tree}
 use Rattle.laying.proofs.Steps.{rows_more, some-least, source_known, tally-fits, keys-more, row_more}
 use Rattle.laying.proofs.merge.merge.Goals as goal
-use Rattle.laying.proofs.merge.merge.Goals.{in-Some, in-default}
+use Rattle.laying.proofs.merge.merge.Goals.{in-Some, in_default}
 
 pub loop-p-init : goal.loop-p-init
 loop-p-init g c =
@@ -47,10 +47,10 @@ loop-p-preserved g c =
                 ∙ row_more order g.met.S.Key.KeyOrder.lawful xs (keys_at t c.args.list) c.args.children.now c.args.start c.args.keys.now c.requires.mergeable
                 c.loop-p.p inside c.loop-p.keys c.loop-p.row c.loop-p.invariant.0 c.loop-p.invariant.2 y w.in-Some.ensures,
           )
-      | in-default w ↦
+      | in_default w ↦
           absurd
           (some-least order g.met.S.Key.KeyOrder.lawful xs (keys_at t c.args.list) c.args.children.now c.args.start c.args.keys.now c.requires.mergeable
-          c.loop-p.p inside c.loop-p.keys c.loop-p.row c.loop-p.invariant.0 c.loop-p.invariant.2 w.in-default.ensures)
+          c.loop-p.p inside c.loop-p.keys c.loop-p.row c.loop-p.invariant.0 c.loop-p.invariant.2 w.in_default.ensures)
     ]
 
 pub returns : goal.returns

@@ -7,7 +7,7 @@ use Rattle.laying.proofs.Pasting.{payload-more}
 use Rattle.laying.proofs.Reading.{nth-none}
 use Rattle.laying.specs.Laying.{payloads_at}
 use Rattle.laying.proofs.payloads.lay_list_payloads.Goals as goal
-use Rattle.laying.proofs.payloads.lay_list_payloads.Goals.{in-Some, in-default}
+use Rattle.laying.proofs.payloads.lay_list_payloads.Goals.{in-Some, in_default}
 
 pub loop-i-init : goal.loop-i-init
 loop-i-init g c = paste_none c.args.payloads.now c.args.first (payloads_at (g.S.Shelf.meaning c.args.shelf.now) c.args.list)
@@ -21,5 +21,5 @@ loop-i-preserved g c =
       | in-Some w ↦
           w.payloads-is
           ∙ payload-more bs c.args.list i c.args.payloads.now c.loop-i.payloads c.args.first w.in-Some.entry (omega arith) c.loop-i.invariant w.in-Some.ensures
-      | in-default w ↦ absurd (nth-none (entries_of (slice_get bs c.args.list)) i (omega arith) (sym c.entry.ensures ∙ w.in-default.is))
+      | in_default w ↦ absurd (nth-none (entries_of (slice_get bs c.args.list)) i (omega arith) (sym c.entry.ensures ∙ w.in_default.is))
     ]

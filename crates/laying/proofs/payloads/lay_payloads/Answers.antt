@@ -12,8 +12,8 @@ use Rattle.laying.specs.Children.{run_of}
 use Rattle.laying.specs.Laying.{payloads_at}
 use Rattle.laying.proofs.payloads.lay_payloads.Goals as goal
 
-pub lay-list-payloads-requires : goal.lay-list-payloads-requires
-lay-list-payloads-requires g c =
+pub lay_list_payloads-requires : goal.lay_list_payloads-requires
+lay_list_payloads-requires g c =
     let bs = g.S.Shelf.meaning c.args.shelf.now in
     let t = key_tree bs in
     let v = c.loop-v.v in
@@ -36,7 +36,7 @@ loop-v-preserved g c =
     let l = length-key_tree bs in
     let run = run-at t (augmented_lists g.S.Key.KeyOrder.order t) c.args.table.now c.requires.tabled v (omega arith) in
     let at = run_of c.args.table.now.runs v in
-    c.lay-list-payloads.ensures
+    c.lay_list_payloads.ensures
     ∙ ap (λ zs. paste zs at.first (payloads_at bs v) at.count) c.loop-v.invariant
     ∙ lists-more bs v c.args.payloads.now at.first at.count (omega arith) (ap (λ (r : ListRun). r.first) run) (ap (λ (r : ListRun). r.count) run ∙ same-lengths bs v)
 

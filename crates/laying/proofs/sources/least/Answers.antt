@@ -8,7 +8,7 @@ pub loop-source-preserved : goal.loop-source-preserved
 loop-source-preserved g c =
     let heads = head_of (keys_at (key_tree (g.S.Shelf.meaning c.args.shelf.now)) c.args.list) c.args.children.now c.args.keys.now c.args.row.now in
     let order = g.S.Key.KeyOrder.order in
-    c.lesser-head-best.ensures
+    c.lesser_head-best.ensures
     ∙ ap₂ (λ o b. lesser order o c.loop-source.source b) c.head.ensures c.loop-source.invariant
     ∙ ap (least_head order heads) (sym (add-one c.loop-source.source))
 

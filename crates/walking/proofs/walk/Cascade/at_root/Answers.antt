@@ -8,4 +8,4 @@ use Rattle.walking.proofs.walk.Cascade.at_root.Goals as goal
 pub returns : goal.returns
 returns g c = λ t laid there.
     let f = passed g.K.KeyOrder.order c.args.side c.args.key.now in
-    c.root-search.ensures ∙ ap (root_search f) (c.keys-of.ensures t laid there) ∙ root-map f (λ x. x.1) (augmented g.K.KeyOrder.order t 0)
+    c.root_search.ensures ∙ ap (root_search f) (c.keys_of.ensures t laid there) ∙ root-map f (λ x. x.1) (augmented g.K.KeyOrder.order t 0)

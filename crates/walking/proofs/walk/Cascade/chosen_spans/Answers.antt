@@ -6,16 +6,16 @@ use Rattle.walking.proofs.Choosing.{chosen_before, span_at, count_yes, count_no,
 use Rattle.walking.proofs.Surveying.{sides-within}
 use Rattle.walking.proofs.Visiting.{visited-chosen}
 use Rattle.walking.proofs.walk.Cascade.chosen_spans.Goals as goal
-use Rattle.walking.proofs.walk.Cascade.chosen_spans.Goals.{then-is-chosen, else-is-chosen}
+use Rattle.walking.proofs.walk.Cascade.chosen_spans.Goals.{then-is_chosen, else-is_chosen}
 
 pub loop-list-init : goal.loop-list-init
 loop-list-init g c = (refl, λ t laid sieve low high are. refl)
 
-pub own-place-requires : goal.own-place-requires
-own-place-requires g c =
+pub own_place-requires : goal.own_place-requires
+own_place-requires g c =
     let p = c.requires in
     let v = c.loop-list.list in
-    let e : chosen c.args.a c.args.b v ≡ true = sym c.is-chosen.ensures ∙ c.if-is-chosen.true in
+    let e : chosen c.args.a c.args.b v ≡ true = sym c.is_chosen.ensures ∙ c.if-is_chosen.true in
     let there : v < length p.tree = subst (λ n. v < n) (sym p.sieve.lists) c.loop-list-test.true in
     let at = p.are v c.loop-list-test.true (visited-chosen c.args.a c.args.b v c.loop-list-test.true e) in
     record {
@@ -25,11 +25,11 @@ own-place-requires g c =
       within = (sides-within g.K.KeyOrder.order p.tree p.low p.high g.met.K.KeyOrder.lawful p.laid.shaped.smaller v there (get_or c.args.places.now v (0, 0)) at).0;
     }
 
-pub own-place-requires-then-is-chosen : goal.own-place-requires-then-is-chosen
-own-place-requires-then-is-chosen g c =
+pub own_place-requires-then-is_chosen : goal.own_place-requires-then-is_chosen
+own_place-requires-then-is_chosen g c =
     let p = c.requires in
     let v = c.loop-list.list in
-    let e : chosen c.args.a c.args.b v ≡ true = sym c.is-chosen.ensures ∙ c.if-is-chosen.true in
+    let e : chosen c.args.a c.args.b v ≡ true = sym c.is_chosen.ensures ∙ c.if-is_chosen.true in
     let there : v < length p.tree = subst (λ n. v < n) (sym p.sieve.lists) c.loop-list-test.true in
     let at = p.are v c.loop-list-test.true (visited-chosen c.args.a c.args.b v c.loop-list-test.true e) in
     record {
@@ -39,19 +39,19 @@ own-place-requires-then-is-chosen g c =
       within = (sides-within g.K.KeyOrder.order p.tree p.low p.high g.met.K.KeyOrder.lawful p.laid.shaped.smaller v there (get_or c.args.places.now v (0, 0)) at).1;
     }
 
-pub offset-bounds-spans-used : goal.offset-bounds-spans-used
-offset-bounds-spans-used g c =
-    let e : chosen c.args.a c.args.b c.loop-list.list ≡ true = sym c.is-chosen.ensures ∙ c.if-is-chosen.true in
+pub offset_bounds-spans-used : goal.offset_bounds-spans-used
+offset_bounds-spans-used g c =
+    let e : chosen c.args.a c.args.b c.loop-list.list ≡ true = sym c.is_chosen.ensures ∙ c.if-is_chosen.true in
     let room = chosen-room c.args.a c.args.b c.loop-list.list c.loop-list.used c.requires.forward c.requires.few c.loop-list-test.true e c.loop-list.invariant.0 in
     record { fits = omega arith }
 
 pub bounds-spans-used : goal.bounds-spans-used
 bounds-spans-used g c =
-    chosen-room c.args.a c.args.b c.loop-list.list c.loop-list.used c.requires.forward c.requires.few c.loop-list-test.true (sym c.is-chosen.ensures ∙ c.if-is-chosen.true) c.loop-list.invariant.0
+    chosen-room c.args.a c.args.b c.loop-list.list c.loop-list.used c.requires.forward c.requires.few c.loop-list-test.true (sym c.is_chosen.ensures ∙ c.if-is_chosen.true) c.loop-list.invariant.0
 
-pub overflow-add-used : goal.overflow-add-used
-overflow-add-used g c =
-    let e : chosen c.args.a c.args.b c.loop-list.list ≡ true = sym c.is-chosen.ensures ∙ c.if-is-chosen.true in
+pub overflow_add-used : goal.overflow_add-used
+overflow_add-used g c =
+    let e : chosen c.args.a c.args.b c.loop-list.list ≡ true = sym c.is_chosen.ensures ∙ c.if-is_chosen.true in
     let room = chosen-room c.args.a c.args.b c.loop-list.list c.loop-list.used c.requires.forward c.requires.few c.loop-list-test.true e c.loop-list.invariant.0 in
     record { fits = omega arith }
 
@@ -63,21 +63,21 @@ loop-list-preserved g c =
     let v = c.loop-list.list in
     let used = c.loop-list.used in
     let spans = c.loop-list.spans in
-    elim c.if-is-chosen.branch [
-      | then-is-chosen w ↦
-          let e : chosen a b v ≡ true = sym c.is-chosen.ensures ∙ w.if-is-chosen.true in
+    elim c.if-is_chosen.branch [
+      | then-is_chosen w ↦
+          let e : chosen a b v ≡ true = sym c.is_chosen.ensures ∙ w.if-is_chosen.true in
           let room = chosen-room a b v used c.requires.forward c.requires.few c.loop-list-test.true e c.loop-list.invariant.0 in (
             w.used-is ∙ count_yes a b v used e c.loop-list.invariant.0,
             λ t laid sieve low high are.
                 let there : v < length t = subst (λ n. v < n) (sym sieve.lists) c.loop-list-test.true in
                 let at = are v c.loop-list-test.true (visited-chosen a b v c.loop-list-test.true e) in
-                let made : span v w.own-place.result w.own-place-then-is-chosen.result ≡ span_at order t low high v =
-                placed-span order t low high g.met.K.KeyOrder.lawful laid.shaped.smaller v there (get_or c.args.places.now v (0, 0)) at w.own-place.result w.own-place-then-is-chosen.result
-                (w.own-place.ensures t laid there) (w.own-place-then-is-chosen.ensures t laid there) in
+                let made : span v w.own_place.result w.own_place-then-is_chosen.result ≡ span_at order t low high v =
+                placed-span order t low high g.met.K.KeyOrder.lawful laid.shaped.smaller v there (get_or c.args.places.now v (0, 0)) at w.own_place.result w.own_place-then-is_chosen.result
+                (w.own_place.ensures t laid there) (w.own_place-then-is_chosen.ensures t laid there) in
                 w.spans-is ∙ ap (set spans used) made ∙ spans-yes a b (span_at order t low high) v used spans e c.loop-list.invariant.0 room (c.loop-list.invariant.1 t laid sieve low high are),
           )
-      | else-is-chosen w ↦
-          let e : chosen a b v ≡ false = sym c.is-chosen.ensures ∙ w.if-is-chosen.false in (
+      | else-is_chosen w ↦
+          let e : chosen a b v ≡ false = sym c.is_chosen.ensures ∙ w.if-is_chosen.false in (
             w.used-is ∙ count_no a b v used e c.loop-list.invariant.0,
             λ t laid sieve low high are. w.spans-is ∙ spans-no a b (span_at order t low high) v spans e (c.loop-list.invariant.1 t laid sieve low high are),
           )

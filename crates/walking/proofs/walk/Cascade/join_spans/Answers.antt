@@ -4,10 +4,10 @@ use Rattle.walking.proofs.Joining.{span-held, joined-none, joined-more, joined-a
 use Rattle.walking.proofs.walk.Cascade.join_spans.Goals as goal
 
 pub loop-i-init : goal.loop-i-init
-loop-i-init g c = joined-none _ _ _ _ _ c.neutral-payload-payload.result c.neutral-payload-payload.ensures
+loop-i-init g c = joined-none _ _ _ _ _ c.neutral_payload-payload.result c.neutral_payload-payload.ensures
 
-pub overflow-add-from : goal.overflow-add-from
-overflow-add-from g c =
+pub overflow_add-from : goal.overflow_add-from
+overflow_add-from g c =
     let p = c.requires in
     let s = get_or c.args.spans.now c.loop-i.i no_span in
     let h = span-held _ _ _ _ _ p.laid (length c.args.payloads.now) s p.held (p.each c.loop-i.i c.loop-i-test.true) in
@@ -15,15 +15,15 @@ overflow-add-from g c =
     let m = h.small in
     record { fits = omega arith }
 
-pub overflow-add-to : goal.overflow-add-to
-overflow-add-to g c =
+pub overflow_add-to : goal.overflow_add-to
+overflow_add-to g c =
     let p = c.requires in
     let s = get_or c.args.spans.now c.loop-i.i no_span in
     let m = (span-held _ _ _ _ _ p.laid (length c.args.payloads.now) s p.held (p.each c.loop-i.i c.loop-i-test.true)).small in
     record { fits = omega arith }
 
-pub overflow-add-entries : goal.overflow-add-entries
-overflow-add-entries g c =
+pub overflow_add-entries : goal.overflow_add-entries
+overflow_add-entries g c =
     let p = c.requires in
     let s = get_or c.args.spans.now c.loop-i.i no_span in
     let m = (span-held _ _ _ _ _ p.laid (length c.args.payloads.now) s p.held (p.each c.loop-i.i c.loop-i-test.true)).small in
@@ -31,8 +31,8 @@ overflow-add-entries g c =
     let k = p.few in
     record { fits = omega arith }
 
-pub offset-bounds-payloads-from : goal.offset-bounds-payloads-from
-offset-bounds-payloads-from g c =
+pub offset_bounds-payloads-from : goal.offset_bounds-payloads-from
+offset_bounds-payloads-from g c =
     let p = c.requires in
     let s = get_or c.args.spans.now c.loop-i.i no_span in
     let h = span-held _ _ _ _ _ p.laid (length c.args.payloads.now) s p.held (p.each c.loop-i.i c.loop-i-test.true) in
@@ -40,8 +40,8 @@ offset-bounds-payloads-from g c =
     let w = h.within in
     omega arith
 
-pub slice-bounds-join-all-end : goal.slice-bounds-join-all-end
-slice-bounds-join-all-end g c =
+pub slice_bounds-join_all-end : goal.slice_bounds-join_all-end
+slice_bounds-join_all-end g c =
     let p = c.requires in
     let s = get_or c.args.spans.now c.loop-i.i no_span in
     let h = span-held _ _ _ _ _ p.laid (length c.args.payloads.now) s p.held (p.each c.loop-i.i c.loop-i-test.true) in
@@ -54,7 +54,7 @@ loop-i-preserved g c =
     let p = c.requires in
     let s = get_or c.args.spans.now c.loop-i.i no_span in
     let h = span-held _ _ _ _ _ p.laid (length c.args.payloads.now) s p.held (p.each c.loop-i.i c.loop-i-test.true) in
-    joined-more _ _ _ _ _ c.loop-i.i c.loop-i.entries c.loop-i.payload c.join-all-payload.result c.loop-i-test.true c.loop-i.invariant h.within h.small c.join-all-payload.ensures
+    joined-more _ _ _ _ _ c.loop-i.i c.loop-i.entries c.loop-i.payload c.join_all-payload.result c.loop-i-test.true c.loop-i.invariant h.within h.small c.join_all-payload.ensures
 
 pub returns : goal.returns
 returns g c = λ t laid each.

@@ -10,39 +10,39 @@ use Rattle.walking.proofs.walk.Cascade.offer.Goals as goal
 pub walk-low-requires : goal.walk-low-requires
 walk-low-requires g c =
     let p = c.requires in
-    record { tree = p.tree; laid = p.laid; end = c.args.end; there = p.there; is = c.path-to-from.ensures.1 p.tree p.laid p.there }
+    record { tree = p.tree; laid = p.laid; end = c.args.end; there = p.there; is = c.path_to-from.ensures.where_laid p.tree p.laid p.there }
 
 pub walk-high-requires : goal.walk-high-requires
 walk-high-requires g c =
     let p = c.requires in
-    record { tree = p.tree; laid = p.laid; end = c.args.end; there = p.there; is = c.path-to-from.ensures.1 p.tree p.laid p.there }
+    record { tree = p.tree; laid = p.laid; end = c.args.end; there = p.there; is = c.path_to-from.ensures.where_laid p.tree p.laid p.there }
 
-pub spans-between-spans-requires : goal.spans-between-spans-requires
-spans-between-spans-requires g c =
+pub spans_between-spans-requires : goal.spans_between-spans-requires
+spans_between-spans-requires g c =
     let p = c.requires in
-    let l = c.walk-low.ensures p.tree c.args.end p.laid p.there (c.path-to-from.ensures.1 p.tree p.laid p.there) in
+    let l = c.walk-low.ensures p.tree c.args.end p.laid p.there (c.path_to-from.ensures.where_laid p.tree p.laid p.there) in
     let n = used-few g.K.KeyOrder.order g.met.K.KeyOrder.lawful p.tree p.laid.shaped c.args.key.now c.args.end p.there in
     omega (arith, ap (λ r. r.used) l)
 
-pub slice-bounds-join-spans-end : goal.slice-bounds-join-spans-end
-slice-bounds-join-spans-end g c =
+pub slice_bounds-join_spans-end : goal.slice_bounds-join_spans-end
+slice_bounds-join_spans-end g c =
     let p = c.requires in
-    let l = c.walk-low.ensures p.tree c.args.end p.laid p.there (c.path-to-from.ensures.1 p.tree p.laid p.there) in
+    let l = c.walk-low.ensures p.tree c.args.end p.laid p.there (c.path_to-from.ensures.where_laid p.tree p.laid p.there) in
     let n = used-few g.K.KeyOrder.order g.met.K.KeyOrder.lawful p.tree p.laid.shaped c.args.key.now c.args.end p.there in
     let u : c.walk-low.result.used ≤ 9 = omega (arith, ap (λ r. r.used) l) in
     search rules
 
-pub join-spans-entries-requires : goal.join-spans-entries-requires
-join-spans-entries-requires g c =
+pub join_spans-entries-requires : goal.join_spans-entries-requires
+join_spans-entries-requires g c =
     let p = c.requires in
     let order = g.K.KeyOrder.order in
     let laws = g.met.K.KeyOrder.lawful in
     let q = c.args.key.now in
     let end = c.args.end in
-    let is = c.path-to-from.ensures.1 p.tree p.laid p.there in
+    let is = c.path_to-from.ensures.where_laid p.tree p.laid p.there in
     let l = c.walk-low.ensures p.tree end p.laid p.there is in
     let h = c.walk-high.ensures p.tree end p.laid p.there is in
-    let taken = spans-taken order laws p.tree p.laid.shaped q end p.there c.walk-low.result c.walk-high.result l h c.spans-between-spans.result c.spans-between-spans.ensures in
+    let taken = spans-taken order laws p.tree p.laid.shaped q end p.there c.walk-low.result c.walk-high.result l h c.spans_between-spans.result c.spans_between-spans.ensures in
     let few = used-few order laws p.tree p.laid.shaped q end p.there in
     let used = offered-used order laws p.tree p.laid.shaped q end p.there in
     record {
@@ -53,11 +53,11 @@ join-spans-entries-requires g c =
       each = subst (λ xs. (i : ℕ) → i < length xs → SpanOf p.tree (get_or xs i no_span)) (sym taken) (each-offered order laws p.tree p.laid.shaped q end p.there);
     }
 
-pub overflow-add-result : goal.overflow-add-result
-overflow-add-result g c =
+pub overflow_add-result : goal.overflow_add-result
+overflow_add-result g c =
     let p = c.requires in
     let order = g.K.KeyOrder.order in
-    let is = c.path-to-from.ensures.1 p.tree p.laid p.there in
+    let is = c.path_to-from.ensures.where_laid p.tree p.laid p.there in
     let l = c.walk-low.ensures p.tree c.args.end p.laid p.there is in
     let h = c.walk-high.ensures p.tree c.args.end p.laid p.there is in
     let small = root-small order p.tree _ _ _ p.laid (let t = p.there in omega arith) in
@@ -74,15 +74,15 @@ returns g c = λ t laid there held.
     let payloads = c.args.payloads.now in
     let low = c.walk-low.result in
     let high = c.walk-high.result in
-    let is = c.path-to-from.ensures.1 t laid there in
+    let is = c.path_to-from.ensures.where_laid t laid there in
     let l = c.walk-low.ensures t end laid there is in
     let h = c.walk-high.ensures t end laid there is in
-    let taken = spans-taken order laws t laid.shaped q end there low high l h c.spans-between-spans.result c.spans-between-spans.ensures in
-    let lists : (i : ℕ) → i < length (take (low.used - 0) c.spans-between-spans.result) → (get_or (take (low.used - 0) c.spans-between-spans.result) i no_span).list < length t =
+    let taken = spans-taken order laws t laid.shaped q end there low high l h c.spans_between-spans.result c.spans_between-spans.ensures in
+    let lists : (i : ℕ) → i < length (take (low.used - 0) c.spans_between-spans.result) → (get_or (take (low.used - 0) c.spans_between-spans.result) i no_span).list < length t =
     subst (λ xs. (i : ℕ) → i < length xs → (get_or xs i no_span).list < length t) (sym taken) (λ i k. (each-offered order laws t laid.shaped q end there i k).there) in
     offer-same
-    (c.spans-between-spans.ensures ∙ ap (filled_up 9 no_span) (spans-are order laws t laid.shaped q end there low high l h))
+    (c.spans_between-spans.ensures ∙ ap (filled_up 9 no_span) (spans-are order laws t laid.shaped q end there low high l h))
     (ap (λ r. r.used) l)
-    (c.join-spans-entries.ensures t laid lists
+    (c.join_spans-entries.ensures t laid lists
     ∙ ap (λ xs. (length (spans_payloads t payloads xs), fold g.P.Payload.joined g.P.Payload.neutral (spans_payloads t payloads xs))) taken)
     (ap₂ (λ a b. a.comparisons + b.comparisons) l h)

@@ -7,8 +7,8 @@ pub loop-list-init : goal.loop-list-init
 loop-list-init g c = λ t laid there.
     climbed-none t laid.shaped.smaller c.args.end there (let s = laid.shaped.shallow c.args.end there in omega arith) (replicate 9 0) (omega arith)
 
-pub offset-bounds-self-list : goal.offset-bounds-self-list
-offset-bounds-self-list g c =
+pub offset_bounds-self-list : goal.offset_bounds-self-list
+offset_bounds-self-list g c =
     let was = c.loop-list.invariant c.requires.tree c.requires.laid c.requires.there in
     let s = list-few _ _ _ _ _ c.requires.laid c.loop-list.list was.there in
     record { fits = omega arith }
@@ -18,13 +18,13 @@ bounds-self-list g c =
     let was = c.loop-list.invariant c.requires.tree c.requires.laid c.requires.there in
     list-few _ _ _ _ _ c.requires.laid c.loop-list.list was.there
 
-pub overflow-sub-from-in-loop-list : goal.overflow-sub-from-in-loop-list
-overflow-sub-from-in-loop-list g c =
+pub overflow_sub-from-in-loop-list : goal.overflow_sub-from-in-loop-list
+overflow_sub-from-in-loop-list g c =
     climbed-room c.requires.tree c.requires.laid.shaped.smaller c.args.end c.loop-list.list c.loop-list.from c.loop-list.lists
     (c.loop-list.invariant c.requires.tree c.requires.laid c.requires.there) c.loop-list-test.true
 
-pub offset-bounds-lists-from-in-loop-list : goal.offset-bounds-lists-from-in-loop-list
-offset-bounds-lists-from-in-loop-list g c =
+pub offset_bounds-lists-from-in-loop-list : goal.offset_bounds-lists-from-in-loop-list
+offset_bounds-lists-from-in-loop-list g c =
     let was = (c.loop-list.invariant c.requires.tree c.requires.laid c.requires.there).within in
     record { fits = omega arith }
 
@@ -47,8 +47,8 @@ loop-list-preserved g c = λ t laid there.
     (climbed-more t laid.shaped.smaller c.args.end c.loop-list.list from lists was c.loop-list-test.true)
 
 pub returns : goal.returns
-returns g c = (
-  let w = (c.loop-list.invariant c.requires.tree c.requires.laid c.requires.there).within in omega arith,
-  λ t laid there.
-      climbed-all t laid.shaped.smaller c.args.end c.loop-list.list c.loop-list.from c.loop-list.lists (c.loop-list.invariant t laid there) (omega arith),
-)
+returns g c = record {
+  result_bound = let w = (c.loop-list.invariant c.requires.tree c.requires.laid c.requires.there).within in omega arith;
+  where_laid = λ t laid there.
+      climbed-all t laid.shaped.smaller c.args.end c.loop-list.list c.loop-list.from c.loop-list.lists (c.loop-list.invariant t laid there) (omega arith);
+}

@@ -4,8 +4,8 @@ use Rattle.walking.specs.Reached.{SpanOf, no_span}
 use Rattle.walking.proofs.Ranging.{ranged-taken, ranged-few, taken-few, each-ranged, each-there, range_same}
 use Rattle.walking.proofs.walk.Cascade.range.Goals as goal
 
-pub chosen-spans-used-requires : goal.chosen-spans-used-requires
-chosen-spans-used-requires g c =
+pub chosen_spans-used-requires : goal.chosen_spans-used-requires
+chosen_spans-used-requires g c =
     let p = c.requires in
     record {
       tree = p.tree;
@@ -13,32 +13,32 @@ chosen-spans-used-requires g c =
       sieve = p.sieve;
       forward = p.forward;
       few = p.few;
-      sized = c.survey-comparisons.ensures.0;
+      sized = c.survey-comparisons.ensures.result_len;
       low = c.args.low.now;
       high = c.args.high.now;
-      are = (c.survey-comparisons.ensures.1 p.tree p.laid p.sieve).0;
+      are = (c.survey-comparisons.ensures.where_sieve p.tree p.laid p.sieve).0;
     }
 
-pub slice-bounds-join-spans-end : goal.slice-bounds-join-spans-end
-slice-bounds-join-spans-end g c =
+pub slice_bounds-join_spans-end : goal.slice_bounds-join_spans-end
+slice_bounds-join_spans-end g c =
     let p = c.requires in
     let low = c.args.low.now in
     let high = c.args.high.now in
-    let u : c.chosen-spans-used.result.1 ≤ 10 =
-    ranged-few g.K.KeyOrder.order p.tree c.args.a c.args.b low high c.chosen-spans-used.result.0 c.chosen-spans-used.result.1
-    (c.chosen-spans-used.ensures p.tree p.laid p.sieve low high (c.survey-comparisons.ensures.1 p.tree p.laid p.sieve).0) p.forward p.few in
+    let u : c.chosen_spans-used.result.1 ≤ 10 =
+    ranged-few g.K.KeyOrder.order p.tree c.args.a c.args.b low high c.chosen_spans-used.result.0 c.chosen_spans-used.result.1
+    (c.chosen_spans-used.ensures p.tree p.laid p.sieve low high (c.survey-comparisons.ensures.where_sieve p.tree p.laid p.sieve).0) p.forward p.few in
     search rules
 
-pub join-spans-entries-requires : goal.join-spans-entries-requires
-join-spans-entries-requires g c =
+pub join_spans-entries-requires : goal.join_spans-entries-requires
+join_spans-entries-requires g c =
     let p = c.requires in
     let order = g.K.KeyOrder.order in
     let low = c.args.low.now in
     let high = c.args.high.now in
     let a = c.args.a in
     let b = c.args.b in
-    let r = c.chosen-spans-used.result in
-    let is = c.chosen-spans-used.ensures p.tree p.laid p.sieve low high (c.survey-comparisons.ensures.1 p.tree p.laid p.sieve).0 in
+    let r = c.chosen_spans-used.result in
+    let is = c.chosen_spans-used.ensures p.tree p.laid p.sieve low high (c.survey-comparisons.ensures.where_sieve p.tree p.laid p.sieve).0 in
     let taken = ranged-taken order p.tree a b low high r.0 r.1 is in
     record {
       tree = p.tree;
@@ -57,13 +57,13 @@ returns g c = λ t laid sieve held.
     let a = c.args.a in
     let b = c.args.b in
     let payloads = c.args.payloads.now in
-    let r = c.chosen-spans-used.result in
-    let survey = c.survey-comparisons.ensures.1 t laid sieve in
-    let is = c.chosen-spans-used.ensures t laid sieve low high survey.0 in
+    let r = c.chosen_spans-used.result in
+    let survey = c.survey-comparisons.ensures.where_sieve t laid sieve in
+    let is = c.chosen_spans-used.ensures t laid sieve low high survey.0 in
     let taken = ranged-taken order t a b low high r.0 r.1 is in
     let lists : (i : ℕ) → i < length (take (r.1 - 0) r.0) → (get_or (take (r.1 - 0) r.0) i no_span).list < length t =
     subst (λ xs. (i : ℕ) → i < length xs → (get_or xs i no_span).list < length t) (sym taken) (each-there order t a b low high sieve) in
     range_same is
-    (c.join-spans-entries.ensures t laid lists
+    (c.join_spans-entries.ensures t laid lists
     ∙ ap (λ xs. (length (spans_payloads t payloads xs), fold g.P.Payload.joined g.P.Payload.neutral (spans_payloads t payloads xs))) taken)
     survey.1

@@ -21,8 +21,8 @@ row-row-requires g c =
       within = subst (λ v. c.args.above ≤ length (augmented g.K.KeyOrder.order p.tree v)) up p.within;
     }
 
-pub offset-bounds-row-run : goal.offset-bounds-row-run
-offset-bounds-row-run g c =
+pub offset_bounds-row-run : goal.offset_bounds-row-run
+offset_bounds-row-run g c =
     let p = c.requires in
     let o = ordinal-is _ p.tree _ _ _ p.laid c.args.list p.there in
     let s = p.laid.shaped.narrow c.args.list p.there in
@@ -51,6 +51,6 @@ returns g c = λ t laid there below within.
     let tallied : get_or c.row-row.result.children (get_or runs list no_run).ordinal 0 ≡ tally (child_source (ordinal t list)) above (augmented order t (parent_of t list)) =
     ap₂ (λ r o. get_or r.children o 0) row (ordinal-is order t _ _ _ laid list there)
     ∙ get_or-map-range_with_len (λ j. tally (child_source j) above (augmented order t (parent_of t list))) 0 4 (ordinal t list) (ordinal t list) 0 (laid.shaped.narrow list there) (omega arith) in
-    c.edge-step.ensures
-    ∙ ap₂ (λ n ks. edge_step f n ks) tallied (c.keys-of.ensures t laid there)
+    c.edge_step.ensures
+    ∙ ap₂ (λ n ks. edge_step f n ks) tallied (c.keys_of.ensures t laid there)
     ∙ edge-map f (λ x. x.1) (tally (child_source (ordinal t list)) above (augmented order t (parent_of t list))) (augmented order t list)

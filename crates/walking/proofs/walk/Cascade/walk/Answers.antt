@@ -3,8 +3,8 @@ use Rattle.walking.proofs.Gathering.{gathered-all}
 use Rattle.walking.proofs.Descending.{way-along, lists-some, root-there, root-arrived, descended-first, list-there, list-below, above_within, step-arrived, comparisons-few, descended-more}
 use Rattle.walking.proofs.walk.Cascade.walk.Goals as goal
 
-pub own-place-requires : goal.own-place-requires
-own-place-requires g c =
+pub own_place-requires : goal.own_place-requires
+own_place-requires g c =
     let p = c.requires in
     let way = way-along g.met.K.KeyOrder.lawful p.laid p.end p.there p.is in
     let some = root-there way c.args.side c.args.key.now in
@@ -12,17 +12,17 @@ own-place-requires g c =
       tree = p.tree;
       laid = p.laid;
       there = some;
-      within = (root-arrived way c.args.side c.args.key.now c.at-root-at.result (c.at-root-at.ensures p.tree p.laid some)).within;
+      within = (root-arrived way c.args.side c.args.key.now c.at_root-at.result (c.at_root-at.ensures p.tree p.laid some)).within;
     }
 
 pub loop-i-init : goal.loop-i-init
 loop-i-init g c = λ t end laid there is.
     let way = way-along g.met.K.KeyOrder.lawful laid end there is in
     let some = root-there way c.args.side c.args.key.now in
-    descended-first way c.args.side c.args.key.now c.at-root-at.result c.own-place.result (c.at-root-at.ensures t laid some) (c.own-place.ensures t laid some)
+    descended-first way c.args.side c.args.key.now c.at_root-at.result c.own_place.result (c.at_root-at.ensures t laid some) (c.own_place.ensures t laid some)
 
-pub step-into-next-requires : goal.step-into-next-requires
-step-into-next-requires g c =
+pub step_into-next-requires : goal.step_into-next-requires
+step_into-next-requires g c =
     let p = c.requires in
     let way = way-along g.met.K.KeyOrder.lawful p.laid p.end p.there p.is in
     let i = c.loop-i.i in
@@ -35,8 +35,8 @@ step-into-next-requires g c =
       within = above_within way c.args.side c.args.key.now i c.loop-i.auto.i c.loop-i-test.true c.loop-i.at c.loop-i.comparisons c.loop-i.stops was;
     }
 
-pub overflow-add-comparisons : goal.overflow-add-comparisons
-overflow-add-comparisons g c =
+pub overflow_add-comparisons : goal.overflow_add-comparisons
+overflow_add-comparisons g c =
     let p = c.requires in
     let side = c.args.side in
     let q = c.args.key.now in
@@ -45,13 +45,13 @@ overflow-add-comparisons g c =
     let some = c.loop-i.auto.i in
     let l = c.loop-i-test.true in
     let was = c.loop-i.invariant p.tree p.end p.laid p.there p.is in
-    let r = c.step-into-next.result in
-    let a = step-arrived way side q i some l c.loop-i.at c.loop-i.comparisons c.loop-i.stops was r (c.step-into-next.ensures p.tree p.laid (list-there way side q i some l)) in
+    let r = c.step_into-next.result in
+    let a = step-arrived way side q i some l c.loop-i.at c.loop-i.comparisons c.loop-i.stops was r (c.step_into-next.ensures p.tree p.laid (list-there way side q i some l)) in
     let few = comparisons-few way side q i some l c.loop-i.at c.loop-i.comparisons c.loop-i.stops was r a in
     record { fits = omega arith }
 
-pub own-place-requires-in-loop-i : goal.own-place-requires-in-loop-i
-own-place-requires-in-loop-i g c =
+pub own_place-requires-in-loop-i : goal.own_place-requires-in-loop-i
+own_place-requires-in-loop-i g c =
     let p = c.requires in
     let side = c.args.side in
     let q = c.args.key.now in
@@ -65,7 +65,7 @@ own-place-requires-in-loop-i g c =
       tree = p.tree;
       laid = p.laid;
       there = there;
-      within = (step-arrived way side q i some l c.loop-i.at c.loop-i.comparisons c.loop-i.stops was c.step-into-next.result (c.step-into-next.ensures p.tree p.laid there)).within;
+      within = (step-arrived way side q i some l c.loop-i.at c.loop-i.comparisons c.loop-i.stops was c.step_into-next.result (c.step_into-next.ensures p.tree p.laid there)).within;
     }
 
 pub loop-i-preserved : goal.loop-i-preserved
@@ -77,10 +77,10 @@ loop-i-preserved g c = λ t end laid there is.
     let some = c.loop-i.auto.i in
     let l = c.loop-i-test.true in
     let was = c.loop-i.invariant t end laid there is in
-    let r = c.step-into-next.result in
+    let r = c.step_into-next.result in
     let here = list-there way side q i some l in
-    let a = step-arrived way side q i some l c.loop-i.at c.loop-i.comparisons c.loop-i.stops was r (c.step-into-next.ensures t laid here) in
-    descended-more way side q i some l c.loop-i.at c.loop-i.comparisons c.loop-i.stops was r c.own-place-in-loop-i.result a (c.own-place-in-loop-i.ensures t laid here)
+    let a = step-arrived way side q i some l c.loop-i.at c.loop-i.comparisons c.loop-i.stops was r (c.step_into-next.ensures t laid here) in
+    descended-more way side q i some l c.loop-i.at c.loop-i.comparisons c.loop-i.stops was r c.own_place-in-loop-i.result a (c.own_place-in-loop-i.ensures t laid here)
 
 pub returns : goal.returns
 returns g c = λ t end laid there is.
