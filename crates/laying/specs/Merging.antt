@@ -17,13 +17,13 @@ source_count = suc most_children
 
 -- how much of a source a row counts
 abbrev pub taken_of : Row → ℕ → ℕ
-taken_of row zero = row.own_val
+taken_of row zero = row.own
 taken_of row (suc j) = slice_index row.children j
 
 -- a row with one more of a source
 abbrev pub counted_in : Row → ℕ → Row
-counted_in row zero = record { own = row.own_val + 1; children = row.children }
-counted_in row (suc j) = record { own = row.own_val; children = slice_set row.children j (slice_index row.children j + 1) }
+counted_in row zero = record { own = row.own + 1; children = row.children }
+counted_in row (suc j) = record { own = row.own; children = slice_set row.children j (slice_index row.children j + 1) }
 
 -- each run ends within the memory
 abbrev pub RunsWithin : List ListRun → ℕ → Type 0
