@@ -13,24 +13,34 @@ use Rattle.register.specs.Memory.{keys_laid, rows_laid}
 use Rattle.register.specs.Shape.{Shaped}
 
 module _ {K P : Type 0} (t : KeyTree K) (gs : List (List (Tagged K))) (table : ListTable) (keys : List K) (rows : List Row) (payloads : List P) where
-  -- the facts in the order of the index's ghost fields
+  -- the facts of the index's ghost fields
   abbrev pub Facts : Type 0
-  Facts =
-      (length t ≤ 128)
-      × (((v : ℕ) → 0 < v → v < length t → parent_of t v < v)
-      × (((v : ℕ) → v < length t → depth_of t v ≤ 8)
-      × (((v : ℕ) → v < length t → ordinal t v < 4)
-      × ((all_keys t ≤ 40000)
-      × ((table.len ≡ length t)
-      × (∥ take table.len table.runs ≡ runs_of t gs ∥₁
-      × ((take (sum_by length gs) keys ≡ keys_laid gs)
-      × (∥ take (sum_by length gs + length t) rows ≡ rows_laid gs ∥₁
-      × ((all_keys t ≤ length payloads)
-      × Unit {0})))))))))
+  Facts = record {
+    few : length t ≤ 128;
+    smaller : (v : ℕ) → 0 < v → v < length t → parent_of t v < v;
+    shallow : (v : ℕ) → v < length t → depth_of t v ≤ 8;
+    narrow : (v : ℕ) → v < length t → ordinal t v < 4;
+    small : all_keys t ≤ 40000;
+    lists : table.len ≡ length t;
+    runs : ∥ take table.len table.runs ≡ runs_of t gs ∥₁;
+    keyed : take (sum_by length gs) keys ≡ keys_laid gs;
+    rowed : ∥ take (sum_by length gs + length t) rows ≡ rows_laid gs ∥₁;
+    loaded : all_keys t ≤ length payloads;
+  }
 
   pub facts-of : Shaped t → Tabled t gs table → take (sum_by length gs) keys ≡ keys_laid gs → take (sum_by length gs + length t) rows ≡ rows_laid gs → all_keys t ≤ length payloads → Facts
-  facts-of s b k r p =
-      (s.lists, (s.smaller, (s.shallow, (s.narrow, (s.entries, (b.lists, (∣ b.runs ∣₁, (k, (∣ r ∣₁, (p, tt))))))))))
+  facts-of s b k r p = record {
+    few = s.lists;
+    smaller = s.smaller;
+    shallow = s.shallow;
+    narrow = s.narrow;
+    small = s.entries;
+    lists = b.lists;
+    runs = ∣ b.runs ∣₁;
+    keyed = k;
+    rowed = ∣ r ∣₁;
+    loaded = p;
+  }
 
 pub shaped-none : (K : Type 0) → Shaped {K = K} []
 shaped-none K = record {

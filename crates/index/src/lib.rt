@@ -31,7 +31,7 @@ pub struct Memory<'m, K, P> {
 // keeps stands in its type: each parent is smaller than its child, no list is more than 8 edges deep or more than its
 // parent's fourth child, runs follow one another inside the memory, and the memory in use is what build lays down.
 #[derive(Drop)]
-pub struct Index<'m, K: KeyOrder, P: Payload> {
+pub struct Index<'m, K: KeyOrder, P> {
     memory: Memory<'m, K, P>,
     table: ListTable,
     layout: Layout<K>,

@@ -26,14 +26,14 @@ returns-then-place-run g c =
       after = unamended i c.args.list c.args.place _ e g.P.Payload.joined c.args.by;
     }
 
-pub overflow-add-run : goal.overflow-add-run
-overflow-add-run g c = record { fits = small-place c.args.self.now c.args.list c.args.place c.if-list-self.false c.if-place-run.false }
+pub overflow_add-run : goal.overflow_add-run
+overflow_add-run g c = record { fits = small-place c.args.self.now c.args.list c.args.place c.if-list-self.false c.if-place-run.false }
 
 pub amend-requires : goal.amend-requires
 amend-requires g c = in_memory c.args.self.now c.args.list c.args.place c.if-list-self.false c.if-place-run.false
 
-pub invariant-of-self : goal.invariant-of-self
-invariant-of-self g c =
+pub invariant_of-self : goal.invariant_of-self
+invariant_of-self g c =
     let i = c.args.self.now in
     let n = sum_by length i.layout.augmented in
     let k = c.amend.ensures.keys in
@@ -42,7 +42,18 @@ invariant-of-self g c =
     let l = i.loaded in
     let loaded : all_keys i.layout.tree ≤ length c.amend.new.self.payloads.now = omega (arith, p, l) in
     let rowed = subst (λ (rs : List Row). ∥ take (n + length i.layout.tree) rs ≡ rows_laid i.layout.augmented ∥₁) (sym r) i.rowed in
-    (i.few, (i.smaller, (i.shallow, (i.narrow, (i.small, (i.lists, (i.runs, (ap (take n) k ∙ i.keyed, (rowed, (loaded, tt))))))))))
+    record {
+      few = i.few;
+      smaller = i.smaller;
+      shallow = i.shallow;
+      narrow = i.narrow;
+      small = i.small;
+      lists = i.lists;
+      runs = i.runs;
+      keyed = ap (take n) k ∙ i.keyed;
+      rowed = rowed;
+      loaded = loaded;
+    }
 
 pub returns : goal.returns
 returns g c =

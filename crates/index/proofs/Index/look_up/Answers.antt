@@ -9,8 +9,8 @@ returns-then-list-self g c = record {
   counts = tt;
 }
 
-pub look-up-requires : goal.look-up-requires
-look-up-requires g c = walkable g.K.KeyOrder.order c.args.self.now c.args.list c.known.ensures.0 c.if-list-self.false
+pub look_up-requires : goal.look_up-requires
+look_up-requires g c = walkable g.K.KeyOrder.order c.args.self.now c.args.list c.known.ensures.0 c.if-list-self.false
 
 pub returns : goal.returns
 returns g c =
@@ -18,6 +18,6 @@ returns g c =
     let o = g.K.KeyOrder.order in
     let laws = g.met.K.KeyOrder.lawful in
     record {
-      answer = look-answer o i c.args.list c.known.ensures.0 c.if-list-self.false laws c.args.side c.args.key.now c.look-up.result c.look-up.ensures;
-      counts = look-counts o i c.args.list c.known.ensures.0 c.if-list-self.false laws c.args.side c.args.key.now c.look-up.result c.look-up.ensures;
+      answer = look-answer o i c.args.list c.known.ensures.0 c.if-list-self.false laws c.args.side c.args.key.now c.look_up.result c.look_up.ensures;
+      counts = look-counts o i c.args.list c.known.ensures.0 c.if-list-self.false laws c.args.side c.args.key.now c.look_up.result c.look_up.ensures;
     }

@@ -3,10 +3,10 @@ use Rattle.faults.specs.declared.Fault.{Fault}
 use Rattle.index.proofs.Ranged.{no-sieve, no-slots, no_keys, rangeable, range-answer, range-counts, range-points}
 use Rattle.index.proofs.Index.range.Goals as goal
 
-pub returns-then-not-is-sieve : goal.returns-then-not-is-sieve
-returns-then-not-is-sieve g c = record {
+pub returns-then-not-is_sieve : goal.returns-then-not-is_sieve
+returns-then-not-is_sieve g c = record {
   answer = ap (λ (f : Fault). Err f) c.new.ensures
-      ∙ no-sieve g.K.KeyOrder.order c.args.self.now c.is-sieve.result c.is-sieve.ensures c.args.a c.args.b c.args.low.now c.args.high.now g.P.Payload.neutral g.P.Payload.joined c.if-not-is-sieve.true;
+      ∙ no-sieve g.K.KeyOrder.order c.args.self.now c.is_sieve.result c.is_sieve.ensures c.args.a c.args.b c.args.low.now c.args.high.now g.P.Payload.neutral g.P.Payload.joined c.if-not-is_sieve.true;
   counts = tt;
   points = tt;
 }
@@ -14,7 +14,7 @@ returns-then-not-is-sieve g c = record {
 pub returns-then-a-b : goal.returns-then-a-b
 returns-then-a-b g c = record {
   answer = ap (λ (f : Fault). Err f) c.new-then-a-b.ensures
-      ∙ no-slots g.K.KeyOrder.order c.args.self.now c.is-sieve.result c.is-sieve.ensures c.args.a c.args.b c.args.low.now c.args.high.now g.P.Payload.neutral g.P.Payload.joined c.if-not-is-sieve.false c.then-a-b.either;
+      ∙ no-slots g.K.KeyOrder.order c.args.self.now c.is_sieve.result c.is_sieve.ensures c.args.a c.args.b c.args.low.now c.args.high.now g.P.Payload.neutral g.P.Payload.joined c.if-not-is_sieve.false c.then-a-b.either;
   counts = tt;
   points = tt;
 }
@@ -22,33 +22,33 @@ returns-then-a-b g c = record {
 pub returns-in-Greater : goal.returns-in-Greater
 returns-in-Greater g c = record {
   answer = ap (λ (f : Fault). Err f) c.new-in-Greater.ensures
-      ∙ no_keys g.K.KeyOrder.order c.args.self.now c.is-sieve.result c.is-sieve.ensures c.args.a c.args.b c.args.low.now c.args.high.now g.P.Payload.neutral g.P.Payload.joined c.if-not-is-sieve.false c.if-a-b.false c.if-b-ge-SLOT-COUNT.false (sym c.compare.ensures ∙ c.in-Greater.is);
+      ∙ no_keys g.K.KeyOrder.order c.args.self.now c.is_sieve.result c.is_sieve.ensures c.args.a c.args.b c.args.low.now c.args.high.now g.P.Payload.neutral g.P.Payload.joined c.if-not-is_sieve.false c.if-a-b.false c.if-b-ge-SLOT_COUNT.false (sym c.compare.ensures ∙ c.in-Greater.is);
   counts = tt;
   points = tt;
 }
 
 pub range-requires : goal.range-requires
 range-requires g c =
-    rangeable g.K.KeyOrder.order c.args.self.now c.is-sieve.result c.is-sieve.ensures c.args.a c.args.b c.args.low.now c.args.high.now
-    c.if-not-is-sieve.false c.if-a-b.false c.if-b-ge-SLOT-COUNT.false (λ e. c.in-default.not-Greater (c.compare.ensures ∙ e)) c.known.ensures.0
+    rangeable g.K.KeyOrder.order c.args.self.now c.is_sieve.result c.is_sieve.ensures c.args.a c.args.b c.args.low.now c.args.high.now
+    c.if-not-is_sieve.false c.if-a-b.false c.if-b-ge-SLOT_COUNT.false (λ e. c.in_default.not-Greater (c.compare.ensures ∙ e)) c.known.ensures.0
 
 pub returns : goal.returns
 returns g c =
     let i = c.args.self.now in
     let o = g.K.KeyOrder.order in
     let laws = g.met.K.KeyOrder.lawful in
-    let says = c.is-sieve.result in
-    let told = c.is-sieve.ensures in
+    let says = c.is_sieve.result in
+    let told = c.is_sieve.ensures in
     let a = c.args.a in
     let b = c.args.b in
     let low = c.args.low.now in
     let high = c.args.high.now in
     let neutral = g.P.Payload.neutral in
     let joined = g.P.Payload.joined in
-    let yes = c.if-not-is-sieve.false in
+    let yes = c.if-not-is_sieve.false in
     let up = c.if-a-b.false in
-    let top = c.if-b-ge-SLOT-COUNT.false in
-    let least : o low high ≡ Greater → ⊥ = λ e. c.in-default.not-Greater (c.compare.ensures ∙ e) in
+    let top = c.if-b-ge-SLOT_COUNT.false in
+    let least : o low high ≡ Greater → ⊥ = λ e. c.in_default.not-Greater (c.compare.ensures ∙ e) in
     let known = c.known.ensures in
     let r = c.range.result in
     let f = c.range.ensures in

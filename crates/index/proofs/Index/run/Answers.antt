@@ -17,10 +17,10 @@ loop-i-preserved g c =
     let few : i < length c.args.requests.now = omega (arith, n, t) in
     let room : i < length c.loop-i.outcomes = omega (arith, n, t, s) in
     subst (λ (out : List (Outcome g.row.P.Denot)).
-    Inv g.K.KeyOrder.order g.P.Payload.neutral g.P.Payload.joined g.S.Shelf.meaning (machine_of c.args.self.now) c.args.requests.now c.args.outcomes.now out (i + 1) (machine_of c.carry-out-outcome.new.self)) (sym c.put.ensures)
+    Inv g.K.KeyOrder.order g.P.Payload.neutral g.P.Payload.joined g.S.Shelf.meaning (machine_of c.args.self.now) c.args.requests.now c.args.outcomes.now out (i + 1) (machine_of c.carry_out-outcome.new.self)) (sym c.put.ensures)
     (step g.K.KeyOrder.order g.P.Payload.neutral g.P.Payload.joined g.S.Shelf.meaning (machine_of c.args.self.now) c.args.requests.now c.args.outcomes.now c.loop-i.outcomes i
-    (machine_of c.loop-i.self) (machine_of c.carry-out-outcome.new.self) c.loop-i.invariant c.index-requests-i.result c.carry-out-outcome.result few room c.index-requests-i.is
-    c.carry-out-outcome.ensures.answer c.carry-out-outcome.ensures.counts c.carry-out-outcome.ensures.after c.sound-in-loop-i.ensures)
+    (machine_of c.loop-i.self) (machine_of c.carry_out-outcome.new.self) c.loop-i.invariant c.index-requests-i.result c.carry_out-outcome.result few room c.index-requests-i.is
+    c.carry_out-outcome.ensures.answer c.carry_out-outcome.ensures.counts c.carry_out-outcome.ensures.after c.sound-in-loop-i.ensures)
 
 pub returns : goal.returns
 returns g c =
