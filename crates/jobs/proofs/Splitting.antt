@@ -2,7 +2,7 @@
 use Rattle.std.proofs.Common.{◌≡◌, ℕ, ◌+◌, ◌<◌, ◌≤◌, eqb, ◌⊎◌, List, [], ◌∷◌, ◌++◌, length, get_or, take, drop, sym, refl, ap, ◌∙◌, subst, ap₂, inl, inr, arith}
 use Rattle.std.proofs.lemmas.List.{append_assoc, take-append-drop, length-drop, drop_more, nil_from_length}
 use Rattle.std.proofs.lemmas.Bool.{eq-eqb, ne_eqb, cases_eq, cond-true, cond-false, cond_both}
-use Rattle.std.specs.List.{AllByRecursion as All}
+use Rattle.std.specs.List.{AllByRecursion}
 use Rattle.jobs.specs.Sheets.{lines_of, EndsFirst, onto, written, Unbroken, unless_empty, AreLines, LinesOfSheet}
 
 -- by the first byte
@@ -31,7 +31,7 @@ first-line sheet i h u e =
     ∙ ended-line (take i sheet) (drop (i + 1) sheet) u
 
 -- lines that make up a sheet are its lines
-made_of : (ended : List (List ℕ)) (last : List ℕ) → All (Unbroken 10) ended → Unbroken 10 last → lines_of (written 10 ended ++ last) ≡ ended ++ unless_empty last
+made_of : (ended : List (List ℕ)) (last : List ℕ) → AllByRecursion (Unbroken 10) ended → Unbroken 10 last → lines_of (written 10 ended ++ last) ≡ ended ++ unless_empty last
 made_of [] last us u = last_line last u
 made_of (line ∷ lines) last us u =
     ap lines_of (append_assoc line (10 ∷ written 10 lines) last)
@@ -48,7 +48,7 @@ onto-last b (c ∷ cs) = refl
 
 -- a sheet with one byte more in front
 before : (b : ℕ) (bs : List ℕ) → (b ≡ 10 → ⊥) → (ended : List (List ℕ)) (last : List ℕ) → bs ≡ written 10 ended ++ last
-    → All (Unbroken 10) ended → Unbroken 10 last → lines_of bs ≡ ended ++ unless_empty last → AreLines 10 (b ∷ bs) (lines_of (b ∷ bs))
+    → AllByRecursion (Unbroken 10) ended → Unbroken 10 last → lines_of bs ≡ ended ++ unless_empty last → AreLines 10 (b ∷ bs) (lines_of (b ∷ bs))
 before b bs n [] last w us u e = record {
   ended = [];
   last = b ∷ last;

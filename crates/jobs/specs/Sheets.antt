@@ -1,6 +1,6 @@
 -- Sheets: the terms of a job as bytes, one term a line.
 use Rattle.std.specs.Prelude.{◌≡◌, ℕ, ◌+◌, ◌<◌, ◌≤◌, cond, List, [], ◌∷◌, ◌++◌, length, take, drop, ◌==◌, ◌≢◌}
-use Rattle.std.specs.List.{AllByRecursion as All}
+use Rattle.std.specs.List.{AllByRecursion}
 
 -- the byte that ends a line
 abbrev pub line_end : ℕ
@@ -25,7 +25,7 @@ module _ (end : ℕ) where
 
   -- no byte of a line ends it
   abbrev pub Unbroken : List ℕ → Type 0
-  Unbroken line = All (λ b. b ≢ end) line
+  Unbroken line = AllByRecursion (λ b. b ≢ end) line
 
 -- what follows the last end is a line too, unless it is empty
 abbrev pub unless_empty : List ℕ → List (List ℕ)
@@ -37,7 +37,7 @@ pub record AreLines (end : ℕ) (sheet : List ℕ) (lines : List (List ℕ)) : T
   pub ended : List (List ℕ)
   pub last : List ℕ
   pub whole : sheet ≡ written end ended ++ last
-  pub unbroken : All (Unbroken end) ended × Unbroken end last
+  pub unbroken : AllByRecursion (Unbroken end) ended × Unbroken end last
   pub all : lines ≡ ended ++ unless_empty last
 
 -- the lines of every sheet are so, and no others are

@@ -8,7 +8,7 @@ use Rattle.std.proofs.lemmas.List.FromFn.{fill_by_all}
 use Rattle.std.proofs.lemmas.List.{drop_all, drop-drop, take-append-drop, length-take, length-drop, get_or-take, get_or-drop}
 use Rattle.std.proofs.lemmas.Bool.{cases_order}
 use Rattle.std.proofs.lemmas.Bool.Decides.{nat_tests}
-use Rattle.std.specs.List.{range_with_len, AllByRecursion as All}
+use Rattle.std.specs.List.{range_with_len, AllByRecursion}
 use Rattle.std.specs.Ordering.{is_le, ordering_reverse}
 use Rattle.terms.specs.Order.{text_order, big_endian}
 
@@ -78,7 +78,7 @@ padded-order (x ∷ xs) (y ∷ ys) (suc m) (suc n) e p q =
     ap (by_heads x y) (padded-order xs ys m n (omega arith) (padded-tail m x xs p) (padded-tail n y ys q))
 
 -- bytes as the digits of a number, in words of as many digits
-big-below : (xs : List ℕ) → All (λ b. b < 256) xs → big_endian xs < 256 ^ length xs
+big-below : (xs : List ℕ) → AllByRecursion (λ b. b < 256) xs → big_endian xs < 256 ^ length xs
 big-below [] h = omega arith
 big-below (x ∷ xs) h =
     let ih = big-below xs h.1 in
@@ -106,7 +106,7 @@ heads-of-words x y p v w o hv hw = by (cases_order x y) (cases_order v w)
         let m = ap (λ (k : ℕ). k * p) e in
         heads-same x y _ (omega arith) (omega arith) ∙ heads-greater v w o f ∙ sym (heads-greater (x * p + v) (y * p + w) o (omega arith))
 
-word-order : (xs ys cs ds : List ℕ) → length xs ≡ length ys → All (λ b. b < 256) xs → All (λ b. b < 256) ys → text_order (xs ++ cs) (ys ++ ds) ≡ by_heads (big_endian xs) (big_endian ys) (text_order cs ds)
+word-order : (xs ys cs ds : List ℕ) → length xs ≡ length ys → AllByRecursion (λ b. b < 256) xs → AllByRecursion (λ b. b < 256) ys → text_order (xs ++ cs) (ys ++ ds) ≡ by_heads (big_endian xs) (big_endian ys) (text_order cs ds)
 word-order [] [] cs ds e h k = refl
 word-order [] (y ∷ ys) cs ds e h k = absurd (omega arith)
 word-order (x ∷ xs) [] cs ds e h k = absurd (omega arith)
@@ -118,7 +118,7 @@ word-order (x ∷ xs) (y ∷ ys) cs ds e h k =
 
 -- r is the word of the eight bytes from `at` on
 abbrev pub Word : List ℕ → ℕ → ℕ → Type 0
-Word bytes at r = (r ≡ big_endian (take 8 (drop at bytes))) × All (λ b. b < 256) (take 8 (drop at bytes))
+Word bytes at r = (r ≡ big_endian (take 8 (drop at bytes))) × AllByRecursion (λ b. b < 256) (take 8 (drop at bytes))
 
 module _ (a b : List ℕ) (at x y : ℕ) (ha : at + 8 ≤ length a) (hb : at + 8 ≤ length b) (wa : Word a at x) (wb : Word b at y) where
   split : (xs : List ℕ) → take 8 (drop at xs) ++ drop (at + 8) xs ≡ drop at xs

@@ -1,6 +1,6 @@
 // The order of term keys.
 ghost use Rattle.std.specs.Prelude.{◌≡◌, ◌+◌, ◌<◌, ◌≤◌, length, take, drop};
-ghost use Rattle.std.specs.List.{AllByRecursion as All};
+ghost use Rattle.std.specs.List.{AllByRecursion};
 ghost use Rattle.terms.specs.Order.{term_order, big_endian};
 ghost use Rattle.terms.specs.Keys.{text_of};
 ghost use Rattle.terms.specs.Lexes.{text-exchange, text-below, text-not-above};
@@ -16,7 +16,7 @@ const WORDS: usize = LONGEST / 8;
 fn word_at(bytes: &[u8], at: usize) -> u64
     requires { at + 8 ≤ length bytes.now }
     ensures value { result ≡ big_endian (take 8 (drop at bytes.now)) }
-    ensures fits { All (λ b. b < 256) (take 8 (drop at bytes.now)) }
+    ensures fits { AllByRecursion (λ b. b < 256) (take 8 (drop at bytes.now)) }
 {
     u64::from_be_bytes([
         bytes[at],

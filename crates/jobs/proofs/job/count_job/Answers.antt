@@ -19,10 +19,10 @@ pub loop-line-preserved : goal.loop-line-preserved
 loop-line-preserved c =
     let l = c.loop-line in
     onward (machine_of c.args.index.now).register c.args.list c.args.sheet.now l.rest.now l.count l.invariant c.in-Some.line.now c.in-Some.behind.now c.in-Some.ensures.lines
-    c.in-ok-judge-line.field-0 c.in-ok-judge-line.ensures c.add.new.self c.add.ensures
+    c.in_ok-judge_line.field-0 c.in_ok-judge_line.ensures c.add.new.self c.add.ensures
 
-pub offered-share-requires : goal.offered-share-requires
-offered-share-requires c =
+pub offered_share-requires : goal.offered_share-requires
+offered_share-requires c =
     let reg = (machine_of c.args.index.now).register in
     let sheet = c.args.sheet.now in
     let l = c.loop-line in (
@@ -35,6 +35,6 @@ returns c =
     let reg = (machine_of c.args.index.now).register in
     let sheet = c.args.sheet.now in
     let l = c.loop-line in (
-      no-fault reg c.args.list sheet (omega arith) c.in-ok-ask-list.ensures,
-      finished reg c.args.list sheet l.rest.now l.count l.invariant c.in-default.ensures c.offered-share.result c.offered-share.ensures,
+      no-fault reg c.args.list sheet (omega arith) c.in_ok-ask_list.ensures,
+      finished reg c.args.list sheet l.rest.now l.count l.invariant c.in_default.ensures c.offered_share.result c.offered_share.ensures,
     )

@@ -6,5 +6,5 @@ returns c = record {
   readable = c.in-Ok.ensures.0;
   key = c.in-Ok.key;
   text = c.in-Ok.ensures.1;
-  judged = sym c.in-ok-found.ensures;
+  judged = sym c.in_ok-found.ensures;
 }
