@@ -16,7 +16,7 @@ returns c =
     let reg = register_of c.args.self.now in
     let list = c.args.list in
     let sheet = c.args.sheet.now in
-    let held = (machine_of c.in-ok-index.index).register in
-    let p = no-refusal (lists_fault term_order (key_tree reg)) reg held (c.in-ok-index.ensures.ample c.in-ok-room.ensures) in
-    let q = subst (λ (r : Register Term Marks). Counts r list sheet (Ok c.in-ok-count-job.field-0)) p.1 c.in-ok-count-job.ensures in
+    let held = (machine_of c.in_ok-index.index).register in
+    let p = no-refusal (lists_fault term_order (key_tree reg)) reg held (c.in_ok-index.ensures.ample c.in_ok-room.ensures) in
+    let q = subst (λ (r : Register Term Marks). Counts r list sheet (Ok c.in_ok-count_job.field-0)) p.1 c.in_ok-count_job.ensures in
     (or-none (lists_fault term_order (key_tree reg)) (job_fault reg list sheet) p.0 q.0, q.1)

@@ -18,11 +18,11 @@ returns c =
     let list = c.args.list in
     let side = c.args.side in
     let key = c.args.key.now in
-    let held = (machine_of c.in-ok-index.index).register in
-    let built = c.in-ok-index.ensures.ample c.in-ok-room.ensures in
-    let said = c.in-ok-look-up.ensures in
+    let held = (machine_of c.in_ok-index.index).register in
+    let built = c.in_ok-index.ensures.ample c.in_ok-room.ensures in
+    let said = c.in_ok-look_up.ensures in
     let p = build-granted (λ (r : Register Term Marks). look_up_answer term_order r list side key) reg (lists_fault term_order (key_tree reg)) held built in
     record {
-      answer = p.1 (Ok (lookup_read c.in-ok-look-up.field-0)) said.answer;
-      counts = subst (λ (r : Register Term Marks). LookupCounts term_order (key_tree r) list side key c.in-ok-look-up.field-0.comparisons) p.0 said.counts;
+      answer = p.1 (Ok (lookup_read c.in_ok-look_up.field-0)) said.answer;
+      counts = subst (λ (r : Register Term Marks). LookupCounts term_order (key_tree r) list side key c.in_ok-look_up.field-0.comparisons) p.0 said.counts;
     }

@@ -18,11 +18,11 @@ returns c =
     let reg = register_of c.args.self.now in
     let list = c.args.list in
     let key = c.args.key.now in
-    let held = (machine_of c.in-ok-index.index).register in
-    let built = c.in-ok-index.ensures.ample c.in-ok-room.ensures in
-    let said = c.in-ok-offer.ensures in
+    let held = (machine_of c.in_ok-index.index).register in
+    let built = c.in_ok-index.ensures.ample c.in_ok-room.ensures in
+    let said = c.in_ok-offer.ensures in
     let p = build-granted (λ (r : Register Term Marks). offer_answer term_order no_marks union_of_marks r list key) reg (lists_fault term_order (key_tree reg)) held built in
     record {
-      answer = p.1 (Ok (offer_read c.in-ok-offer.field-0)) said.answer;
-      counts = subst (λ (r : Register Term Marks). OfferCounts term_order (key_tree r) list key c.in-ok-offer.field-0.comparisons) p.0 said.counts;
+      answer = p.1 (Ok (offer_read c.in_ok-offer.field-0)) said.answer;
+      counts = subst (λ (r : Register Term Marks). OfferCounts term_order (key_tree r) list key c.in_ok-offer.field-0.comparisons) p.0 said.counts;
     }
