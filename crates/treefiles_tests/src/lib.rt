@@ -16,7 +16,7 @@ mod tests {
 
     // Two lists, the second with an entry.
     const TWO_LISTS: &[u8; 29] =
-        b"V\x00\x02\x00\x01_l\x00\x01\x00_l\x00\x01\xff_e\x00\x06\x00\x00\x00\x05up_z\x00\x04\x00\x00\x00\x01";
+        b"V\x00\x02\x00\x01L\x00\x01\x00L\x00\x01\xffE\x00\x06\x00\x00\x00\x05upZ\x00\x04\x00\x00\x00\x01";
 
     // The file is refused, also by the entry for C.
     fn refused(rt: &impl Abort, file: &[u8], reason: Reason, first: usize, second: usize) {
@@ -49,7 +49,7 @@ mod tests {
         refused(&rt, b"V\x00\x02\x00", Reason::FileOpening, 0, 0);
         refused(
             &rt,
-            b"V\x00\x02\x00\x02_l\x00\x01\x00",
+            b"V\x00\x02\x00\x02L\x00\x01\x00",
             Reason::FileOpening,
             0,
             0,
@@ -61,28 +61,28 @@ mod tests {
         refused(&rt, b"V\x00\x02\x00\x01", Reason::FieldIncomplete, 5, 0);
         refused(
             &rt,
-            b"V\x00\x02\x00\x01_l\x00\x01",
+            b"V\x00\x02\x00\x01L\x00\x01",
             Reason::FieldIncomplete,
             5,
             0,
         );
         refused(
             &rt,
-            b"V\x00\x02\x00\x01_l\x00\x01\x00",
+            b"V\x00\x02\x00\x01L\x00\x01\x00",
             Reason::FieldIncomplete,
             9,
             0,
         );
         refused(
             &rt,
-            b"V\x00\x02\x00\x01_l\x00\x01\x00_z\x00\x04\x00\x00\x00",
+            b"V\x00\x02\x00\x01L\x00\x01\x00Z\x00\x04\x00\x00\x00",
             Reason::FieldIncomplete,
             9,
             0,
         );
         refused(
             &rt,
-            b"V\x00\x02\x00\x01_l\x00\x01\x00_z\x00\x04\x00\x00\x00\x00?",
+            b"V\x00\x02\x00\x01L\x00\x01\x00Z\x00\x04\x00\x00\x00\x00?",
             Reason::FieldIncomplete,
             16,
             0,
@@ -93,21 +93,21 @@ mod tests {
     fn fields_out_of_place(rt: HostRuntime) {
         refused(
             &rt,
-            b"V\x00\x02\x00\x01_e\x00\x05\x00\x00\x00\x00a",
+            b"V\x00\x02\x00\x01E\x00\x05\x00\x00\x00\x00a",
             Reason::FieldNotAllowed,
             5,
             0,
         );
         refused(
             &rt,
-            b"V\x00\x02\x00\x01_l\x00\x01\x00_v\x00\x02\x00\x01",
+            b"V\x00\x02\x00\x01L\x00\x01\x00V\x00\x02\x00\x01",
             Reason::FieldNotAllowed,
             9,
             0,
         );
         refused(
             &rt,
-            b"V\x00\x02\x00\x01_l\x00\x01\x00_z\x00\x04\x00\x00\x00\x00_l\x00\x01\x00",
+            b"V\x00\x02\x00\x01L\x00\x01\x00Z\x00\x04\x00\x00\x00\x00L\x00\x01\x00",
             Reason::FieldNotAllowed,
             16,
             0,
@@ -118,35 +118,35 @@ mod tests {
     fn lengths_and_numbers(rt: HostRuntime) {
         refused(
             &rt,
-            b"V\x00\x02\x00\x01_l\x00\x02\x00\x00",
+            b"V\x00\x02\x00\x01L\x00\x02\x00\x00",
             Reason::FieldLength,
             5,
             0,
         );
         refused(
             &rt,
-            b"V\x00\x02\x00\x01_l\x00\x01\x00_e\x00\x04\x00\x00\x00\x00",
+            b"V\x00\x02\x00\x01L\x00\x01\x00E\x00\x04\x00\x00\x00\x00",
             Reason::FieldLength,
             9,
             0,
         );
         refused(
             &rt,
-            b"V\x00\x02\x00\x01_l\x00\x01\x00_z\x00\x03\x00\x00\x00",
+            b"V\x00\x02\x00\x01L\x00\x01\x00Z\x00\x03\x00\x00\x00",
             Reason::FieldLength,
             9,
             0,
         );
         refused(
             &rt,
-            b"V\x00\x02\x00\x01_l\x00\x01\x01",
+            b"V\x00\x02\x00\x01L\x00\x01\x01",
             Reason::FieldNumber,
             5,
             0,
         );
         refused(
             &rt,
-            b"V\x00\x02\x00\x01_l\x00\x01\x00_z\x00\x04\x00\x00\x00\x01",
+            b"V\x00\x02\x00\x01L\x00\x01\x00Z\x00\x04\x00\x00\x00\x01",
             Reason::FieldNumber,
             9,
             0,
@@ -157,7 +157,7 @@ mod tests {
     fn key_faults_name_their_field(rt: HostRuntime) {
         refused(
             &rt,
-            b"V\x00\x02\x00\x01_l\x00\x01\x00_e\x00\x07\x00\x00\x00\x00a\x00b",
+            b"V\x00\x02\x00\x01L\x00\x01\x00E\x00\x07\x00\x00\x00\x00a\x00b",
             Reason::KeyZeroByte,
             1,
             9,
@@ -166,7 +166,7 @@ mod tests {
 
     #[test]
     fn smallest_tree(rt: HostRuntime) {
-        let file = b"V\x00\x02\x00\x01_l\x00\x01\x00_z\x00\x04\x00\x00\x00\x00";
+        let file = b"V\x00\x02\x00\x01L\x00\x01\x00Z\x00\x04\x00\x00\x00\x00";
         assert_eq!(rt;
             load::check(file),
             Ok(Loaded {
