@@ -1,5 +1,5 @@
 -- The points of a rectangle lie in the spans of a range, each in one.
-use Rattle.std.proofs.Common.{◌≡◌, ℕ, zero, suc, ◌+◌, ◌<◌, ◌≤◌, Bool, true, false, cond, not, ◌&&◌, ltb, leb, List, [], ◌∷◌, take, Some, filter, Ordering, sym, refl, ap, ◌∙◌, inl, inr, zero-add, one-add, arith}
+use Rattle.std.proofs.Common.{◌≡◌, ℕ, zero, suc, ◌+◌, ◌<◌, ◌≤◌, Bool, true, false, cond, not, ◌&&◌, ltb, leb, List, [], ◌∷◌, take, Some, filter, Ordering, sym, refl, ap, subst, ◌∙◌, inl, inr, zero-add, one-add, arith}
 use Rattle.std.specs.List.{slice_get, range_with_len}
 use Rattle.std.specs.Ordering.{is_le, is_lt}
 use Rattle.std.proofs.lemmas.List.FromFn.{length-map-range_with_len, get_or-map-range_with_len}
@@ -9,14 +9,16 @@ use Rattle.orders.specs.declared.side.Side.TheVariants.{Low, High}
 use Rattle.orders.specs.Laws.{LawfulOrder}
 use Rattle.orders.specs.Places.{bit, count, passed, place, in_order}
 use Rattle.shelves.specs.Slots.{sieve_lists, slot_count, covers}
-use Rattle.cascade.specs.Lists.{test_at}
-use Rattle.cascade.specs.Trees.{keys_at, keys_of}
+use Rattle.cascade.specs.Lists.{test_at, Sorted}
+use Rattle.cascade.specs.Trees.{keys_at, keys_of, not_above}
 use Rattle.cascade.specs.SlotTree.{chosen, chosen_lists, SieveShaped, Span, spans}
 use Rattle.cascade.specs.Points.{BarePoint, sieved_list, sieved_keys, in_rectangle, holds}
-use Rattle.cascade.specs.SlotTheorems.{Rectangle}
+use Rattle.cascade.specs.SlotTheorems.{Rectangle, RectangleOfLists}
 use Rattle.cascade.proofs.Counts.{Falls, count_map, count_kept, count-and, test-before, test-after}
+use Rattle.cascade.proofs.Merging.{sort-fixed, kept-sort}
 use Rattle.cascade.proofs.Numbering.{count-among}
-use Rattle.cascade.proofs.KeyOrders.{sorted-from-in-order, falls-keys}
+use Rattle.cascade.proofs.Sorting.{sort_sorted}
+use Rattle.cascade.proofs.KeyOrders.{key_le, total, trans, sorted-keys, sorted-from-keys, in-order-from-sorted, sorted-from-in-order, falls-keys}
 use Rattle.cascade.proofs.Ranging.{slots-once, spans-counted}
 
 -- a test that falls passes at the places before the number of those that pass
@@ -105,5 +107,19 @@ module _ {K : Type 0} (order : K → K → Ordering) (laws : LawfulOrder order) 
         ∙ sym (count_kept (chosen a b) (λ v. covers v s && between) (range_with_len 0 sieve_lists))
         ∙ count-and (λ v. covers v s) between (leb a s && leb s b) (chosen_lists a b) (slots-once a b up top s)
 
+pub rectangle-of-lists : (K : Type 0) → RectangleOfLists K
+rectangle-of-lists K order laws ps rising a b up top low high i p at = once order laws ps rising low high i p at a b up top
+
+module _ {K : Type 0} (order : K → K → Ordering) (laws : LawfulOrder order) (ps : List (BarePoint K)) (rising : in_order order (keys_of ps) ≡ true) where
+  -- of points in order, those of some slots are in order too
+  kept-rising : (c : BarePoint K → Bool) → Sorted (key_le order) (keys_of (filter c ps))
+  kept-rising c =
+      let s = sorted-from-keys order ps (sorted-from-in-order order laws (keys_of ps) rising) in
+      let e = sym (kept-sort (not_above order) (total order laws) (trans order laws) c ps) ∙ ap (filter c) (sort-fixed (not_above order) (total order laws) (trans order laws) ps s) in
+      sorted-keys order (filter c ps) (subst (Sorted (not_above order)) e (sort_sorted (not_above order) (total order laws) (trans order laws) (filter c ps)))
+
+  lists-rising : (v : ℕ) → v < sieve_lists → in_order order (keys_at (sieved_keys ps) v) ≡ true
+  lists-rising v l = in-order-from-sorted order laws (keys_at (sieved_keys ps) v) (subst (Sorted (key_le order)) (sym (sieve-keys ps v l)) (kept-rising (λ p. covers v p.0)))
+
 pub rectangle : (K : Type 0) → Rectangle K
-rectangle K order laws ps rising a b up top low high i p at = once order laws ps rising low high i p at a b up top
+rectangle K order laws ps rising = rectangle-of-lists K order laws ps (lists-rising order laws ps rising)

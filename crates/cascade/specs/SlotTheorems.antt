@@ -1,5 +1,5 @@
 -- What holds of the sieve's tree and of ranges over it.
-use Rattle.std.specs.Prelude.{◌≡◌, ℕ, suc, ◌+◌, ◌*◌, ◌<◌, ◌≤◌, true, not, ◌&&◌, List, length, Some, nat_le}
+use Rattle.std.specs.Prelude.{◌≡◌, ℕ, suc, ◌+◌, ◌*◌, ◌<◌, ◌≤◌, true, not, ◌&&◌, List, map, length, Some, nat_le}
 use Rattle.std.specs.declared.cmp.Ordering.{Ordering}
 use Rattle.std.specs.List.{slice_get}
 use Rattle.orders.specs.Laws.{LawfulOrder}
@@ -42,9 +42,16 @@ SpansCounted K =
     (order : K → K → Ordering) → LawfulOrder order → (t : KeyTree K) → SieveShaped t → (a b : ℕ) (low high : K)
     → spans order t a b low high ≡ counted_spans order t a b low high
 
--- of points whose sieved lists are in order, each that lies in the rectangle is in exactly one span, and no other point in any
+-- of points in order of their keys, each that lies in the rectangle is in exactly one span, and no other point in any
 abbrev pub Rectangle : Type 0 → Type 0
 Rectangle K =
+    (order : K → K → Ordering) → LawfulOrder order → (ps : List (BarePoint K)) → in_order order (map (λ p. p.1) ps) ≡ true
+    → (a b : ℕ) → a ≤ b → b < slot_count → (low high : K) (i : ℕ) (p : BarePoint K) → slice_get ps i ≡ Some p
+    → count (holds ps i p.0) (spans order (sieved_keys ps) a b low high) ≡ bit (in_rectangle order a b low high p)
+
+-- the same of points in any order whose sieved lists are in order
+abbrev pub RectangleOfLists : Type 0 → Type 0
+RectangleOfLists K =
     (order : K → K → Ordering) → LawfulOrder order → (ps : List (BarePoint K))
     → ((v : ℕ) → v < sieve_lists → in_order order (keys_at (sieved_keys ps) v) ≡ true)
     → (a b : ℕ) → a ≤ b → b < slot_count → (low high : K) (i : ℕ) (p : BarePoint K) → slice_get ps i ≡ Some p

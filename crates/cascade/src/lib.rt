@@ -3,7 +3,7 @@
 #![tactic(auto)]
 
 ghost use Rattle.cascade.specs.Theorems.{Lengths, Space, Ordered, Defined, RootSearch, EdgeWithin, OwnPlace, LookupWithin};
-ghost use Rattle.cascade.specs.SlotTheorems.{FewChosen, FewVisited, SlotsOnce, FromParent, RangeWithin, SpansCounted, Rectangle};
+ghost use Rattle.cascade.specs.SlotTheorems.{FewChosen, FewVisited, SlotsOnce, FromParent, RangeWithin, SpansCounted, Rectangle, RectangleOfLists};
 ghost use Rattle.cascade.specs.Cases.{CasesHold};
 
 pub mod row;
@@ -109,6 +109,13 @@ pub fn spans_counted<K>() -> u8
 // The points of a rectangle lie in the spans of its range.
 pub fn rectangle<K>() -> u8
     ensures { Rectangle K }
+{
+    0
+}
+
+// And so they do where only the sieved lists are in order.
+pub fn rectangle_of_lists<K>() -> u8
+    ensures { RectangleOfLists K }
 {
     0
 }

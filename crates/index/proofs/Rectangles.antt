@@ -12,7 +12,7 @@ use Rattle.shelves.specs.Slots.{sieve_lists, slot_count, sieve_parent, covers}
 use Rattle.shelves.specs.Tables.{sieved, sifted, entry_of}
 use Rattle.shelves.specs.declared.rows.Point.{Point}
 use Rattle.cascade.proofs.Counts.{count_map}
-use Rattle.cascade.proofs.Pointing.{rectangle, sieve-shaped}
+use Rattle.cascade.proofs.Pointing.{rectangle-of-lists, sieve-shaped}
 use Rattle.cascade.proofs.Ranging.{spans-counted}
 use Rattle.cascade.specs.Points.{BarePoint, sieved_list, sieved_keys, holds}
 use Rattle.cascade.specs.SlotTree as slots
@@ -91,5 +91,5 @@ module _ {K P : Type 0} (order : K → K → Ordering) (laws : LawfulOrder order
       ∙ sym (spans-counted K order laws (sieved_keys ps) (sieve-shaped ps) a b low high) in
       count_map (holds_point points i p) (λ (s : slots.Span). span s.0 s.1 s.2) (slots.spans order (key_tree reg) a b low high)
       ∙ ap (count (holds ps i p.slot)) spans
-      ∙ rectangle K order laws ps (λ v l. same-order order (key_tree reg) (sieved_keys ps) same rising v) a b up top low high i (bare p)
+      ∙ rectangle-of-lists K order laws ps (λ v l. same-order order (key_tree reg) (sieved_keys ps) same rising v) a b up top low high i (bare p)
       (nth-map bare points i ∙ ap (option_map bare) at)
