@@ -62,13 +62,7 @@ fn count_in_file(heap: Global, file: &[u8], sheet: &[u8], list: usize) -> Result
 }
 
 // A whole job: the count of a sheet at an end list of the tree of a file.
-#[unsafe(no_mangle)]
-pub extern "C" fn galdrisco_count_job(
-    heap: Global,
-    tree: &[u8],
-    sheet: &[u8],
-    list: usize,
-) -> JobReport
+pub fn galdrisco_count_job(heap: Global, tree: &[u8], sheet: &[u8], list: usize) -> JobReport
     ensures { Reports tree.now sheet.now list result }
 {
     match count_in_file(heap, tree, sheet, list) {

@@ -6,8 +6,7 @@ ghost use Rattle.treefiles.specs.Reader.{read};
 use crate::load::check;
 
 // The number of the refusal of a load into ample memory, or 0 where it is granted.
-#[unsafe(no_mangle)]
-pub extern "C" fn galdrisco_check_tree(file: &[u8]) -> u32
+pub fn galdrisco_check_tree(file: &[u8]) -> u32
     ensures { result ≡ refusal (read file.now) }
 {
     match check(file) {
