@@ -1,6 +1,6 @@
 /*
  * What a C program may call of Galdrisco. galdrisco_check_tree is in target/staticlib/libtreefiles.a, galdrisco_count_job
- * in target/staticlib/libservice.a; the latter takes memory by malloc, for which librattle_c.a of the Rattle kit is
+ * in target/staticlib/libservice.a; the latter takes memory by malloc, for which c/liblibc_c.a of the Rattle kit is
  * linked behind it.
  */
 #ifndef GALDRISCO_H
