@@ -1,7 +1,7 @@
 // The command line: checks tree files, shows what they hold, looks terms up in them and counts jobs.
 #![tactic(auto)]
 
-use std::io;
+use std::process::ExitCode;
 
 mod answers;
 mod commands;
@@ -12,13 +12,14 @@ mod text;
 mod trees;
 
 // The status is 0 where all that was asked for was granted, otherwise 1.
-fn main(rt: HostRuntime) -> io::Result<()> {
+fn main(rt: HostRuntime) -> ExitCode {
     match commands::run(&rt) {
-        Ok(true) => Ok(()),
-        Ok(false) => Err(io::Error::from(io::ErrorKind::InvalidData)),
+        Ok(true) => ExitCode::SUCCESS,
+        Ok(false) => ExitCode::FAILURE,
         Err(error) => {
-            eprintln!(rt; "galdrisco: {error}")?;
-            Err(error)
+            // Where this cannot be written either, the status alone tells it.
+            let _ = eprintln!(rt; "galdrisco: {error}");
+            ExitCode::FAILURE
         }
     }
 }

@@ -1,4 +1,4 @@
-// What a C program may call.
+// What a C program may call: `service_c` exports it.
 ghost use Rattle.std.specs.Prelude.{◌≡◌};
 ghost use Rattle.service.specs.Reports.{FileCounts, count_report, refusal_report, Reports};
 

@@ -3,7 +3,7 @@ use cascade::row::Row;
 use terms::key::Term;
 use terms::marks::Marks;
 
-pub mod laying;
+pub mod making;
 
 #[derive(Drop)]
 pub struct Room {

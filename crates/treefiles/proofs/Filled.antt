@@ -1,5 +1,5 @@
 -- Memory as it is filled, item by item. Assumes nothing.
-use Rattle.std.proofs.Common.{◌≡◌, ℕ, zero, suc, ◌+◌, ◌-◌, ◌^◌, ◌<◌, ◌≤◌, Bool, true, false, cond, eqb, List, [], ◌∷◌, ◌++◌, map, length, get_or, take, drop, set, Some, Ok, Err, Result, sym, refl, ap, ◌∙◌, subst, ap₂, append_assoc, append-nil, arith, length-append, take-append-drop, length-take-le}
+use Rattle.std.proofs.Common.{◌≡◌, ℕ, zero, suc, ◌-◌, ◌^◌, ◌<◌, ◌≤◌, Bool, true, false, cond, eqb, List, [], ◌∷◌, ◌++◌, map, length, get_or, take, drop, set, Some, Ok, Err, Result, sym, refl, ap, ◌∙◌, subst, ap₂, append_assoc, append-nil, arith, length-append, take-append-drop, length-take-le}
 use Rattle.faults.specs.declared.Fault.{Fault}
 use Rattle.orders.specs.declared.entry.Entry.{Entry}
 use Rattle.shelves.specs.declared.rows.ListRow.{ListRow}
@@ -36,10 +36,10 @@ module _ {X : Type 0} where
   take-set-in zero (y ∷ ys) x = refl
   take-set-in (suc n) (y ∷ ys) x = ap (λ (l : List X). y ∷ l) (take-set-in n ys x)
 
-  pub get_d_front : (n : ℕ) (xs : List X) (d : X) → get_or (take (suc n) xs) n d ≡ get_or xs n d
-  get_d_front n [] d = refl
-  get_d_front zero (y ∷ ys) d = refl
-  get_d_front (suc n) (y ∷ ys) d = get_d_front n ys d
+  pub get_or-front : (n : ℕ) (xs : List X) (d : X) → get_or (take (suc n) xs) n d ≡ get_or xs n d
+  get_or-front n [] d = refl
+  get_or-front zero (y ∷ ys) d = refl
+  get_or-front (suc n) (y ∷ ys) d = get_or-front n ys d
 
   pub drop_more_same : (n : ℕ) (xs ys : List X) → drop n xs ≡ drop n ys → drop (suc n) xs ≡ drop (suc n) ys
   drop_more_same n xs ys e = drop-one n xs ∙ ap (drop 1) e ∙ sym (drop-one n ys)
@@ -163,7 +163,7 @@ module _ (file : List ℕ) (l : Loader) (lists lists' : List ListRow) (entries e
           let k : m.lists - 1 ≡ n.0 = omega arith in
           let few = few-counted f.run.done n.0 (rows_long (omega arith) ∙ n.1) in
           let at : get_or lists' (m.lists - 1) (row 0 0) ≡ get_or (rows_from [] f.run.done) n.0 (row 0 0) =
-          ap (λ (x : ℕ). get_or lists' x (row 0 0)) k ∙ sym (get_d_front n.0 lists' (row 0 0)) ∙ ap (λ (x : ℕ). get_or (take x lists') n.0 (row 0 0)) (sym n.1) ∙ ap (λ (rs : List ListRow). get_or rs n.0 (row 0 0)) f.rows in
+          ap (λ (x : ℕ). get_or lists' x (row 0 0)) k ∙ sym (get_or-front n.0 lists' (row 0 0)) ∙ ap (λ (x : ℕ). get_or (take x lists') n.0 (row 0 0)) (sym n.1) ∙ ap (λ (rs : List ListRow). get_or rs n.0 (row 0 0)) f.rows in
           let count = ap (λ (r : ListRow). r.count) at in
           let w = l.few in
           let within : l.at ≤ length file = subst (λ (g : List ℕ). l.at ≤ length g) f.run.of l.within in
@@ -213,7 +213,7 @@ module _ (file : List ℕ) (l : Loader) (lists lists' : List ListRow) (entries e
           let low : m.lists - 1 ≡ k = omega arith in
           let R = rows_from [] f.run.done in
           let front : take (suc k) lists' ≡ R = ap (λ (x : ℕ). take x lists') (sym c) ∙ f.rows in
-          let here : get_or lists' k (row 0 0) ≡ get_or R k (row 0 0) = sym (get_d_front k lists' (row 0 0)) ∙ ap (λ (rs : List ListRow). get_or rs k (row 0 0)) front in
+          let here : get_or lists' k (row 0 0) ≡ get_or R k (row 0 0) = sym (get_or-front k lists' (row 0 0)) ∙ ap (λ (rs : List ListRow). get_or rs k (row 0 0)) front in
           let x = one_more (get_or lists' k (row 0 0)) in
           let wrote : lists'' ≡ set lists' k x = t.0 ∙ ap (λ (j : ℕ). set lists' j (one_more (get_or lists' j (row 0 0)))) low in
           let wrote_e : entries'' ≡ set entries' l.entries e = t.1 ∙ ap (λ (j : ℕ). set entries' j e) at in

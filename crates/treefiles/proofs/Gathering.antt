@@ -1,5 +1,5 @@
 -- Items gathered into a tree, and a tree's items. Assumes nothing.
-use Rattle.std.proofs.Common.{◌≡◌, ℕ, suc, ◌+◌, ◌-◌, List, [], ◌∷◌, ◌++◌, length, sym, refl, ap, ◌∙◌, subst, append_assoc, append-nil, arith}
+use Rattle.std.proofs.Common.{◌≡◌, ℕ, suc, ◌+◌, List, [], ◌∷◌, ◌++◌, length, sym, refl, ap, ◌∙◌, subst, append_assoc, append-nil, arith}
 use Rattle.treefiles.specs.Format.{TermEntry, TermList, all_entries, list_field, entry_field, closing_field, entry_fields, list_fields, IsTree, Keyed}
 use Rattle.treefiles.specs.Reader.{Item, a_list, an_entry, the_end, entries_in, gathered, tree_of}
 use Rattle.treefiles.specs.Steps.{lists_in}

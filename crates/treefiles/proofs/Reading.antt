@@ -1,5 +1,5 @@
 -- The first field of bytes, and what its body says. Assumes nothing.
-use Rattle.std.proofs.Common.{◌≡◌, ℕ, ◌+◌, ◌-◌, ◌*◌, ◌≤◌, true, false, List, [], ◌∷◌, length, get_or, take, drop, Some, None, Ok, Err, sym, arith}
+use Rattle.std.proofs.Common.{◌≡◌, ℕ, ◌+◌, ◌*◌, ◌≤◌, true, false, List, [], ◌∷◌, length, get_or, take, drop, Some, None, Ok, Err, sym, arith}
 use Rattle.std.proofs.lemmas.Bool.{le-leb}
 use Rattle.faults.specs.Refusals.{fault, with_second}
 use Rattle.faults.specs.declared.Fault.{Fault}

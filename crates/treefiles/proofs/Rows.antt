@@ -1,5 +1,5 @@
 -- List rows as the items come. Assumes nothing.
-use Rattle.std.proofs.Common.{◌≡◌, ℕ, zero, suc, ◌+◌, ◌-◌, ◌≤◌, List, [], ◌∷◌, ◌++◌, map, length, get_or, set, sym, refl, ap, ◌∙◌, append_assoc, append-nil, arith}
+use Rattle.std.proofs.Common.{◌≡◌, ℕ, zero, suc, ◌+◌, ◌≤◌, List, [], ◌∷◌, ◌++◌, map, length, get_or, set, sym, refl, ap, ◌∙◌, append_assoc, append-nil, arith}
 use Rattle.shelves.specs.declared.rows.ListRow.{ListRow}
 use Rattle.treefiles.specs.Filling.{row, one_more}
 use Rattle.treefiles.specs.Loading.{list_row}

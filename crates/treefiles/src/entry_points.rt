@@ -1,4 +1,4 @@
-// What a C program may call.
+// What a C program may call: `treefiles_c` exports it.
 ghost use Rattle.std.specs.Prelude.{◌≡◌};
 ghost use Rattle.treefiles.specs.Loading.{refusal};
 ghost use Rattle.treefiles.specs.Reader.{read};

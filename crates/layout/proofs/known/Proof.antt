@@ -1,11 +1,11 @@
 -- `known` reads the fact that a `&` to a layout holds. Assumes `Logic`.
-use Rattle.std.proofs.Common.{ℕ, List, [], ◌∷◌, refl, Bor}
+use Rattle.std.proofs.Common.{List, [], ◌∷◌, refl, Bor}
 use seplogic.Ra.Ura.{Ura}
 use mir.Syntax.{Fn, Args, Dict, a_type, named, dnil, dcons}
 use mir.MapTy.{inst_fn}
 use mir.Val.{Val, vunit}
 use base.Logic.{SProp, ent, via, fst∗}
-use base.Fml.{fhide, feq}
+use base.Fml.{fhide}
 use prog.Memory.{Memory}
 use prog.Routine.{Routine}
 use prog.Wp.{Calls, Loops, WpFn, Tables}
