@@ -4,7 +4,8 @@
 usage: python3 tools/respell.py [TOP]      rewrites specs, proofs, clauses, edits and docs below TOP (default: here)
 
 Words in camel case become snake case, and a fact becomes a type's name. A dash in a lemma's name stays: it joins two names.
-Code, strings, inputs and outputs have no such words.
+Code, inputs and outputs have no such words. It goes by text, so a string that looks like one is turned too and mended by hand:
+the byte strings of crates/treefiles_tests.
 It stops without a change where two names would fall together.
 """
 

@@ -18,7 +18,7 @@ mod tests {
     const TWO_LISTS: &[u8; 29] =
         b"V\x00\x02\x00\x01L\x00\x01\x00L\x00\x01\xffE\x00\x06\x00\x00\x00\x05upZ\x00\x04\x00\x00\x00\x01";
 
-    // The file is refused, also by the function that C calls.
+    // The file is refused, also by the function behind the export for C.
     fn refused(rt: &impl Abort, file: &[u8], reason: Reason, first: usize, second: usize) {
         assert_eq!(rt; load::check(file), Err(Fault::new(reason, first, second)));
         assert_eq!(rt; galdrisco_check_tree(file), reason.number());
