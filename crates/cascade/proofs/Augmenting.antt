@@ -1,7 +1,8 @@
 -- Each augmented list by its children: what stands behind a list, and what comes of it.
-use Rattle.std.proofs.Common.{◌≡◌, ℕ, zero, suc, ◌+◌, ◌-◌, ◌/◌, ◌<◌, Bool, true, false, cond, eqb, List, [], ◌∷◌, ◌++◌, map, length, get_or, drop, sum_by, filter, Ordering, sym, refl, ap, ◌∙◌, add-zero, add-suc, suc-add, zero-add, arith, length-append, length-drop}
+use Rattle.std.proofs.Common.{◌≡◌, ℕ, zero, suc, ◌+◌, ◌-◌, ◌/◌, ◌<◌, Bool, eqb, List, [], ◌∷◌, ◌++◌, map, length, get_or, drop, sum_by, filter, Ordering, sym, refl, ap, ◌∙◌, add-zero, add-suc, suc-add, zero-add, arith, length-append, length-drop}
 use lib.ListN.{length-map}
 use Rattle.std.specs.List.{range_with_len}
+use Rattle.std.proofs.Math.Path.{fun_ext}
 use Rattle.std.proofs.lemmas.List.{get_or-drop, get_or-map}
 use Rattle.std.proofs.lemmas.List.Sums.{sum_by-cons}
 use Rattle.std.proofs.lemmas.Bool.{eq-eqb, ne_eqb, eqb-true}
@@ -36,10 +37,7 @@ module _ {K : Type 0} (order : K → K → Ordering) where
       let ih = samples-numbered v (u + 1) p A bs gs (omega arith) (numbered-tail (0, []) (λ x. x.0) p u b bs h) (numbered-tail [] (λ x. x) A u g gs k) in
       let rest = filter (λ w. eqb (p w) v) (range_with_len (u + 1) (length bs)) in
       rw (← numbered-head (0, []) (λ x. x.0) p u b bs h)
-      (elim (eqb (p u) v) as (λ c. cond c (samples (keys_of g) ∷ child_samples v bs gs) (child_samples v bs gs) ≡ map (λ w. samples (keys_of (A w))) (cond c (u ∷ rest) rest)) [
-        | true ↦ ap (λ x. samples (keys_of x) ∷ child_samples v bs gs) (sym (numbered-head [] (λ x. x) A u g gs k)) ∙ ap (λ r. samples (keys_of (A u)) ∷ r) ih
-        | false ↦ ih
-      ])
+      (let e = numbered-head [] (λ x. x) A u g gs k in grind (arith, ih, e))
 
 -- the samples of the children of list v
 abbrev pub samples_under : {K : Type 0} → (K → K → Ordering) → KeyTree K → ℕ → List (List K)
@@ -116,21 +114,13 @@ length-tag_all f j (w ∷ ws) =
     let s = sum_by-cons (λ x. length (f x)) w ws in
     rw (length-append, length-map) (omega arith)
 
-sum_by-same : {X : Type 0} (f g : X → ℕ) → ((x : X) → f x ≡ g x) → (xs : List X) → sum_by f xs ≡ sum_by g xs
-sum_by-same f g e [] = refl
-sum_by-same f g e (x ∷ xs) =
-    let ih = sum_by-same f g e xs in
-    let h = e x in
-    let s = sum_by-cons f x xs in
-    let r = sum_by-cons g x xs in
-    omega arith
-
 pub lengths : (K : Type 0) → Lengths K
 lengths K order t smaller v h =
     let f : ℕ → List K = λ w. samples (keys_of (augmented order t w)) in
     let s = length-tag_all f 0 (children_of t v) in
-    let q = sum_by-same (λ w. length (f w)) (λ w. length (augmented order t w) / 4)
-    (λ w. length-samples (keys_of (augmented order t w)) ∙ ap (λ n. n / 4) (length-map (augmented order t w) (λ x. x.1))) (children_of t v) in
+    let q : sum_by (λ w. length (f w)) (children_of t v) ≡ sum_by (λ w. length (augmented order t w) / 4) (children_of t v) =
+    ap (λ (g : ℕ → ℕ). sum_by g (children_of t v))
+    (fun_ext (λ w. length-samples (keys_of (augmented order t w)) ∙ ap (λ n. n / 4) (length-map (augmented order t w) (λ x. x.1)))) in
     ap length (by-children order t smaller v h)
     ∙ length-sort (not_above order) (tag own_source (keys_at t v) ++ tag_all 0 (samples_under order t v))
     ∙ length-append (tag own_source (keys_at t v)) (tag_all 0 (samples_under order t v))

@@ -1,8 +1,7 @@
 -- What antt computes at each of the 2080 ranges: few lists, and the chosen ones lie side by side.
 use Rattle.std.proofs.Common.{◌≡◌, ℕ, zero, suc, ◌+◌, ◌*◌, ◌^◌, ◌<◌, ◌≤◌, Bool, true, false, cond, ◌&&◌, eqb, ltb, leb, List, [], ◌∷◌, length, filter, sym, refl, ap, ◌∙◌, arith}
-use native.Mathlib.Decide.{ℕ_discrete}
 use Rattle.std.proofs.lemmas.Bool.{and_parts, leb-true, eqb-true}
-use Rattle.std.proofs.lemmas.Bool.Decides.{nat_tests}
+use Rattle.std.proofs.lemmas.Bool.Decides.{Decides-below_and, nat_tests}
 use Rattle.orders.specs.Places.{bit, count}
 use Rattle.shelves.specs.Slots.{slot_count}
 use Rattle.cascade.proofs.Nodes.{inside_at, covers_at}
@@ -25,12 +24,7 @@ all zero f = true
 all (suc n) f = f n && all n f
 
 all-at : (n : ℕ) (f : ℕ → Bool) → all n f ≡ true → (k : ℕ) → k < n → f k ≡ true
-all-at zero f t k h = absurd (omega arith)
-all-at (suc n) f t k h =
-    elim (ℕ_discrete k n) [
-      | yes e ↦ ap f e ∙ (and_parts (f n) (all n f) t).0
-      | no d ↦ all-at n f (and_parts (f n) (all n f) t).1 k (omega arith)
-    ]
+all-at n f = (Decides-below_and f (λ k. f k ≡ true) (λ m. all m f) (λ k. (λ e. e, λ e. e)) refl (λ _. refl) n).0
 
 row : ℕ → Bool
 row b = all (suc b) (λ a. test a b)
@@ -46,9 +40,8 @@ tested a b h k = all-at (suc b) (λ x. test x b) (all-at slot_count row rows b k
 tiles-up : (xs : List (ℕ × ℕ)) (lo hi : ℕ) → tiles xs lo hi ≡ true → lo ≤ hi
 tiles-up [] lo hi t = let e = eqb-true lo hi t in omega arith
 tiles-up (x ∷ xs) lo hi t =
-    let p = and_parts (eqb (x.1 * 2 ^ x.0) lo) (tiles xs (lo + 2 ^ x.0) hi) t in
-    let ih = tiles-up xs (lo + 2 ^ x.0) hi p.1 in
-    omega arith
+    let ih = tiles-up xs (lo + 2 ^ x.0) hi in
+    grind (arith, nat_tests, ih)
 
 -- a part and what is behind it
 parts : (lo n hi s : ℕ) → lo + n ≤ hi
@@ -72,11 +65,8 @@ tiles-cover (x ∷ xs) lo hi s t =
 module _ (a b : ℕ) (up : a ≤ b) (top : b < slot_count) where
   few : (length (choice a b) ≤ 10) × (length (walk a b 6 0) ≤ 21) × (tiles (choice a b) a (suc b) ≡ true)
   few =
-      let x = leb (length (choice a b)) 10 in
-      let y = leb (length (walk a b 6 0)) 21 in
-      let z = tiles (choice a b) a (suc b) in
-      let p = and_parts x (y && z) (tested a b up top) in
-      let q = and_parts y z p.1 in
+      let p = and_parts _ _ (tested a b up top) in
+      let q = and_parts _ _ p.1 in
       (leb-true _ _ p.0, leb-true _ _ q.0, q.1)
 
   pub choice-few : length (choice a b) ≤ 10

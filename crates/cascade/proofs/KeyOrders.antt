@@ -1,7 +1,6 @@
 -- What the laws of an order give: elements by their keys, lists in order, and tests that hold up to the place of a key.
-use Rattle.std.proofs.Common.{◌≡◌, Bool, true, false, cond, List, [], ◌∷◌, Ordering, Less, Equal, Greater, sym, refl, ap, ◌∙◌}
-use Rattle.std.specs.Ordering.{is_le, is_lt, ordering_reverse}
-use Rattle.std.proofs.lemmas.Bool.{both_ways}
+use Rattle.std.proofs.Common.{◌≡◌, Bool, true, false, List, [], ◌∷◌, Ordering, refl, arith}
+use Rattle.std.specs.Ordering.{is_le, is_lt}
 use Rattle.orders.specs.declared.side.Side.{Side}
 use Rattle.orders.specs.declared.side.Side.TheVariants.{Low, High}
 use Rattle.orders.specs.Laws.{LawfulOrder}
@@ -10,22 +9,7 @@ use Rattle.cascade.specs.Lists.{Sorted}
 use Rattle.cascade.specs.Lists as lists
 use Rattle.cascade.specs.Trees.{Tagged, keys_of, not_above}
 use Rattle.cascade.proofs.Counts.{Falls}
-use Rattle.cascade.proofs.Sorting.{falls, false-by, low-down}
-
-above-back : (o : Ordering) → is_le o ≡ false → is_le (ordering_reverse o) ≡ true
-above-back Less e = sym e
-above-back Equal e = refl
-above-back Greater e = refl
-
-not-below-back : (o : Ordering) → is_lt o ≡ false → is_le (ordering_reverse o) ≡ true
-not-below-back Less e = sym e
-not-below-back Equal e = refl
-not-below-back Greater e = refl
-
-back-not-below : (o : Ordering) → is_le o ≡ true → is_lt (ordering_reverse o) ≡ false
-back-not-below Less e = refl
-back-not-below Equal e = refl
-back-not-below Greater e = sym e
+use Rattle.cascade.proofs.Sorting.{falls, low-down}
 
 module _ {K : Type 0} (order : K → K → Ordering) where
   abbrev pub key_le : K → K → Bool
@@ -49,7 +33,7 @@ module _ {K : Type 0} (order : K → K → Ordering) where
 
 module _ {K : Type 0} (order : K → K → Ordering) (laws : LawfulOrder order) where
   pub key-total : (a b : K) → key_le order a b ≡ false → key_le order b a ≡ true
-  key-total a b e = ap is_le (laws.exchange a b) ∙ above-back (order a b) e
+  key-total a b e = grind (arith, laws.exchange a b)
 
   pub key-trans : (a b c : K) → key_le order a b ≡ true → key_le order b c ≡ true → key_le order a c ≡ true
   key-trans = laws.not_above
@@ -62,15 +46,15 @@ module _ {K : Type 0} (order : K → K → Ordering) (laws : LawfulOrder order) 
 
   -- not below, the other way round
   pub not-below : (a b : K) → is_lt (order a b) ≡ false → key_le order b a ≡ true
-  not-below a b e = ap is_le (laws.exchange a b) ∙ not-below-back (order a b) e
+  not-below a b e = grind (arith, laws.exchange a b)
 
   pub not-above : (a b : K) → key_le order b a ≡ true → is_lt (order a b) ≡ false
-  not-above a b e = ap is_lt (laws.exchange b a) ∙ back-not-below (order b a) e
+  not-above a b e = grind (arith, laws.exchange b a)
 
   -- what is not passed is followed by no key that is
   pub down : (side : Side) (q a b : K) → key_le order a b ≡ true → passed order side q a ≡ false → passed order side q b ≡ false
   down Low q a b e f = not-above b q (key-trans q a b (not-below a q f) e)
-  down High q a b e f = false-by (key_le order b q) (λ g. both_ways (key_le order a q) f (key-trans a b q e g))
+  down High q a b e f = let t = key-trans a b q e in grind (arith, t)
 
   pub falls-keys : (side : Side) (q : K) (ks : List K) → Sorted (key_le order) ks → Falls (passed order side q) ks
   falls-keys side q ks s = falls (key_le order) (passed order side q) (down side q) ks s
@@ -85,14 +69,10 @@ module _ {K : Type 0} (order : K → K → Ordering) (laws : LawfulOrder order) 
 
   sorted-from-after : (k : K) (ks : List K) → in_order_after order k ks ≡ true → Sorted (key_le order) (k ∷ ks)
   sorted-from-after k [] h = (tt, tt)
-  sorted-from-after k (x ∷ xs) h = go (sorted-from-after x xs) (is_lt (order x k)) refl h
-    where
-      go : (in_order_after order x xs ≡ true → Sorted (key_le order) (x ∷ xs)) → (b : Bool) → is_lt (order x k) ≡ b → cond b false (in_order_after order x xs) ≡ true → Sorted (key_le order) (k ∷ (x ∷ xs))
-      go rest true e g = absurd (both_ways false refl g)
-      go rest false e g =
-          let s = rest g in
-          let l = not-below x k e in
-          ((l, low-down (key_le order) key-total key-trans k x xs l s.0), s)
+  sorted-from-after k (x ∷ xs) h =
+      let s = sorted-from-after x xs (grind arith) in
+      let l = not-below x k (grind arith) in
+      ((l, low-down (key_le order) key-total key-trans k x xs l s.0), s)
 
   pub sorted-from-in-order : (ks : List K) → in_order order ks ≡ true → Sorted (key_le order) ks
   sorted-from-in-order [] h = tt

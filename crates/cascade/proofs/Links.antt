@@ -1,6 +1,7 @@
 -- For proofs about code: elements, samples and tallies at a place, and the turns of the root search.
-use Rattle.std.proofs.Common.{◌≡◌, ℕ, zero, suc, ◌+◌, ◌-◌, ◌*◌, ◌/◌, ◌<◌, ◌≤◌, Bool, true, false, cond, eqb, ltb, List, [], ◌∷◌, length, get_or, take, sym, refl, ap, ◌∙◌, inl, inr, suc-add, arith}
-use Rattle.std.proofs.lemmas.Bool.{cases_lt, lt-ltb, le-ltb}
+use Rattle.std.proofs.Common.{◌≡◌, ℕ, zero, suc, ◌+◌, ◌-◌, ◌*◌, ◌/◌, ◌<◌, ◌≤◌, Bool, true, false, cond, eqb, List, [], ◌∷◌, length, get_or, take, sym, refl, ap, ◌∙◌, suc-add, arith}
+use Rattle.std.proofs.lemmas.Bool.{lt-ltb, le-ltb}
+use Rattle.std.proofs.lemmas.Bool.Decides.{nat_tests}
 use Rattle.orders.specs.Places.{bit, count}
 use Rattle.cascade.specs.Lists.{samples, test_at}
 use Rattle.cascade.specs.Trees.{Tagged}
@@ -46,13 +47,10 @@ module _ (f : ℕ → Bool) where
   bisect-any zero (suc n) lo hi h k = rw (le-ltb lo hi (omega arith))
   bisect-any (suc m) zero lo hi h k = rw (le-ltb lo hi (omega arith))
   bisect-any (suc m) (suc n) lo hi h k =
-      elim (cases_lt lo hi) [
-        | inr l ↦ rw (le-ltb lo hi l)
-        | inl l ↦
-            let mid = (lo + hi) / 2 in
-            ap (λ r. cond (ltb lo hi) (one_more (cond (f mid) r (bisect f m lo mid))) (lo, 0)) (bisect-any m n (mid + 1) hi (omega arith) (omega arith))
-            ∙ ap (λ r. cond (ltb lo hi) (one_more (cond (f mid) (bisect f n (mid + 1) hi) r)) (lo, 0)) (bisect-any m n lo mid (omega arith) (omega arith))
-      ]
+      let mid = (lo + hi) / 2 in
+      let right = bisect-any m n (mid + 1) hi in
+      let left = bisect-any m n lo mid in
+      grind (arith, nat_tests, right, left)
 
   -- what is left of the search between lo and hi
   abbrev pub between : (lo hi : ℕ) → ℕ × ℕ
@@ -68,13 +66,13 @@ module _ (f : ℕ → Bool) where
   pub between-right : (lo hi : ℕ) → lo < hi → f ((lo + hi) / 2) ≡ true → between lo hi ≡ one_more (between ((lo + hi) / 2 + 1) hi)
   between-right lo hi h e =
       let mid = (lo + hi) / 2 in
-      turn lo hi h
-      ∙ ap (λ c. one_more (cond c (bisect f (hi - lo - 1) (mid + 1) hi) (bisect f (hi - lo - 1) lo mid))) e
-      ∙ ap one_more (bisect-any (hi - lo - 1) (hi - (mid + 1)) (mid + 1) hi (omega arith) (omega arith))
+      let t = turn lo hi h in
+      let b = bisect-any (hi - lo - 1) (hi - (mid + 1)) (mid + 1) hi (omega arith) (omega arith) in
+      grind (arith, t, b, e)
 
   pub between_left : (lo hi : ℕ) → lo < hi → f ((lo + hi) / 2) ≡ false → between lo hi ≡ one_more (between lo ((lo + hi) / 2))
   between_left lo hi h e =
       let mid = (lo + hi) / 2 in
-      turn lo hi h
-      ∙ ap (λ c. one_more (cond c (bisect f (hi - lo - 1) (mid + 1) hi) (bisect f (hi - lo - 1) lo mid))) e
-      ∙ ap one_more (bisect-any (hi - lo - 1) (mid - lo) lo mid (omega arith) (omega arith))
+      let t = turn lo hi h in
+      let b = bisect-any (hi - lo - 1) (mid - lo) lo mid (omega arith) (omega arith) in
+      grind (arith, t, b, e)

@@ -1,5 +1,5 @@
 -- The sieve's lists by depth d and index j: list 2 ^ d + j - 1, of height h = 6 - d, has 2 ^ h slots from j * 2 ^ h on.
-use Rattle.std.proofs.Common.{◌≡◌, ℕ, zero, suc, ◌+◌, ◌-◌, ◌*◌, ◌/◌, ◌^◌, ◌<◌, ◌≤◌, Bool, true, false, cond, not, ◌&&◌, ltb, leb, sym, refl, ap, ◌∙◌, inl, inr, mul-le-mul_right, add-mul, one-mul, mul-add, arith}
+use Rattle.std.proofs.Common.{◌≡◌, ℕ, zero, suc, ◌+◌, ◌-◌, ◌*◌, ◌/◌, ◌^◌, ◌<◌, ◌≤◌, Bool, true, false, cond, not, ◌&&◌, ltb, leb, ap, ◌∙◌, inl, inr, mul-le-mul_right, add-mul, one-mul, mul-add, arith}
 use native.Mathlib.Nat.{two-pow-succ, pow-le-pow_right}
 use Rattle.std.proofs.lemmas.Nat.{pow_pos}
 use Rattle.std.proofs.lemmas.Bool.{cases_lt}
@@ -8,7 +8,6 @@ use Rattle.orders.specs.Numbers.{bit_length}
 use Rattle.shelves.specs.Slots.{sieve_lists, sieve_parent, sieve_depth, width_of, first_slot, covers}
 use Rattle.cascade.specs.SlotTree.{meets, inside, none_above, none_above_chosen, visited, chosen}
 use Rattle.cascade.specs.SlotTheorems.{FromParent}
-use Rattle.cascade.proofs.Counts.{and-false}
 use Rattle.cascade.proofs.Searching.{bit_length-enough, bit_length-least}
 
 abbrev pub number_of : (d j : ℕ) → ℕ
@@ -86,20 +85,6 @@ meets-up a b h j e =
     let hi = span-high h (j / 2) j (omega arith) in
     grind (arith, nat_tests)
 
-and-known : (m n : Bool) → (m ≡ true → n ≡ true) → m ≡ (n && m)
-and-known true n h = rw (h refl)
-and-known false n h = sym (and-false n)
-
--- c: none above the parent is chosen, i: it is inside, n: it meets the range, m: the child does
-clear_step : (c i m n : Bool) → (m ≡ true → n ≡ true) → ((not (c && i) && c) && m) ≡ ((c && n) && (not i && m))
-clear_step true true m n h = sym (and-false n)
-clear_step true false m n h = and-known m n h
-clear_step false i m n h = refl
-
-and-swap : (c m i : Bool) → (i ≡ true → m ≡ true) → (c && i) ≡ ((c && m) && i)
-and-swap true m i h = and-known i m h
-and-swap false m i h = refl
-
 module _ (a b : ℕ) where
   -- none above list j of depth d is chosen
   abbrev pub clear : (d j : ℕ) → Bool
@@ -119,17 +104,15 @@ module _ (a b : ℕ) where
         let l : j / 2 < 2 ^ d = omega arith in
         let m = meets-is (suc d) j there h deep a b in
         let n = meets-is d (j / 2) l (suc h) (omega arith) a b in
-        ap (λ c. c && meets a b (number_of (suc d) j)) (clear-is (suc d) j there ∙ clear-below d j)
-        ∙ clear_step (clear d (j / 2)) (inside a b (number_of d (j / 2))) (meets a b (number_of (suc d) j)) (meets a b (number_of d (j / 2)))
-        (λ e. n ∙ meets-up a b h j (sym m ∙ e))
-        ∙ ap (λ c. (c && meets a b (number_of d (j / 2))) && (not (inside a b (number_of d (j / 2))) && meets a b (number_of (suc d) j))) (sym (clear-is d (j / 2) l))
+        let up = meets-up a b h j in
+        grind (arith, clear-is (suc d) j there, clear-below d j, clear-is d (j / 2) l, m, n, up)
 
   -- a list that is inside meets the range
   inside-meets : (v : ℕ) → inside a b v ≡ true → meets a b v ≡ true
   inside-meets v e = let p = pow_pos (6 - sieve_depth v) in grind (arith, nat_tests)
 
   pub chosen_is : (v : ℕ) → chosen a b v ≡ (visited a b v && inside a b v)
-  chosen_is v = and-swap (none_above_chosen a b v) (meets a b v) (inside a b v) (inside-meets v)
+  chosen_is v = let m = inside-meets v in grind (arith, m)
 
 -- each list has a depth, a height and an index
 pub record Node (v : ℕ) : Type 0 where

@@ -19,18 +19,16 @@ pub count-among : (f g : ℕ → Bool) (a n : ℕ) → Among a n (λ v. f v ≡ 
 count-among f g a zero h = refl
 count-among f g a (suc n) h =
     let ih = count-among f g (a + 1) n (among-tail (λ v. f v ≡ g v) a n h) in
-    let e : bit (f a) ≡ bit (g a) = ap bit (h a (omega arith) (omega arith)) in
-    omega arith
+    let e = h a (omega arith) (omega arith) in
+    rw e (omega arith)
 
 pub map-among : {Y : Type 0} (p : ℕ → Bool) (f g : ℕ → Y) (a n : ℕ) → Among a n (λ v. f v ≡ g v) → map f (filter p (range_with_len a n)) ≡ map g (filter p (range_with_len a n))
 map-among p f g a zero h = refl
 map-among p f g a (suc n) h =
     let rest = filter p (range_with_len (a + 1) n) in
     let ih : map f rest ≡ map g rest = map-among p f g (a + 1) n (among-tail (λ v. f v ≡ g v) a n h) in
-    elim (p a) as (λ c. map f (cond c (a ∷ rest) rest) ≡ map g (cond c (a ∷ rest) rest)) [
-      | true ↦ ap (λ y. y ∷ map f rest) (h a (omega arith) (omega arith)) ∙ ap (λ ys. g a ∷ ys) ih
-      | false ↦ ih
-    ]
+    let e = h a (omega arith) (omega arith) in
+    grind (arith, ih, e)
 
 pub all_among : (P : ℕ → Type 0) (a n : ℕ) → Among a n P → All P (range_with_len a n)
 all_among P a zero h = tt
@@ -60,11 +58,7 @@ module _ (f : ℕ → Bool) where
       rw g (sym (add-zero a), omega arith)
   kept_at a (suc n) (suc k) d h e =
       let ih = kept_at (a + 1) n k d (omega arith) (sym (next f a k) ∙ e) in
-      elim (f a) as (λ b. (get_or (cond b (a ∷ filter f (range_with_len (a + 1) n)) (filter f (range_with_len (a + 1) n))) (bit b + count f (range_with_len (a + 1) k)) d ≡ a + suc k)
-      × (bit b + count f (range_with_len (a + 1) k) < length (cond b (a ∷ filter f (range_with_len (a + 1) n)) (filter f (range_with_len (a + 1) n))))) [
-        | true ↦ (rw one-add (ih.0 ∙ omega arith), omega arith)
-        | false ↦ (rw zero-add (ih.0 ∙ omega arith), omega arith)
-      ]
+      (grind (arith, one-add, zero-add, ih.0), grind (arith, ih.1))
 
   -- and what is found passes
   pub kept_back : (a n j d : ℕ) → j < length (filter f (range_with_len a n))

@@ -1,14 +1,13 @@
 -- The part of a list that is from one source.
-use Rattle.std.proofs.Common.{◌≡◌, ℕ, zero, suc, ◌+◌, ◌≤◌, Bool, true, false, cond, ◌&&◌, eqb, List, [], ◌∷◌, ◌++◌, get_or, filter, Ordering, sym, refl, ap, ◌∙◌, add-zero, add-suc, suc-add, zero-add, arith}
+use Rattle.std.proofs.Common.{◌≡◌, ℕ, zero, suc, ◌+◌, ◌≤◌, Bool, ◌&&◌, eqb, List, [], ◌∷◌, ◌++◌, get_or, filter, Ordering, sym, refl, ap, ◌∙◌, add-zero, add-suc, suc-add, zero-add, arith}
 use Rattle.std.proofs.lemmas.List.Elements.{filter-append}
 use Rattle.std.proofs.lemmas.List.{map-append, append-nil}
 use Rattle.std.proofs.lemmas.Bool.{eq-eqb, ne_eqb}
 use Rattle.orders.specs.Laws.{LawfulOrder}
-use Rattle.orders.specs.Places.{bit, count}
+use Rattle.orders.specs.Places.{count}
 use Rattle.cascade.specs.Lists.{sort, Sorted}
 use Rattle.cascade.specs.Trees.{Tagged, own_source, child_source, keys_of, tag, tag_all, not_above}
 use Rattle.cascade.specs.Theorems.{part_of}
-use Rattle.cascade.proofs.Counts.{and-true, and-false}
 use Rattle.cascade.proofs.Merging.{kept-sorted}
 use Rattle.cascade.proofs.KeyOrders.{key_le, total, trans, sorted-from-keys}
 
@@ -17,11 +16,7 @@ module _ {K : Type 0} where
   count-part p source [] = refl
   count-part p source (x ∷ xs) =
       let ih = count-part p source xs in
-      let rest = filter (λ y. eqb y.0 source) xs in
-      elim (eqb x.0 source) as (λ c. bit (p x.1 && c) + count (λ y. p y.1 && eqb y.0 source) xs ≡ count p (keys_of (cond c (x ∷ rest) rest))) [
-        | true ↦ rw (and-true, ih)
-        | false ↦ rw and-false (omega arith)
-      ]
+      grind (arith, ih)
 
   pub part-append : (source : ℕ) (xs ys : List (Tagged K)) → part_of source (xs ++ ys) ≡ part_of source xs ++ part_of source ys
   part-append source xs ys =

@@ -1,9 +1,9 @@
 -- The points of a rectangle lie in the spans of a range, each in one.
-use Rattle.std.proofs.Common.{◌≡◌, ℕ, zero, suc, ◌+◌, ◌<◌, ◌≤◌, Bool, true, false, cond, not, ◌&&◌, ltb, leb, List, [], ◌∷◌, take, Some, filter, Ordering, sym, refl, ap, subst, ◌∙◌, inl, inr, zero-add, one-add, arith}
+use Rattle.std.proofs.Common.{◌≡◌, ℕ, zero, suc, ◌<◌, ◌≤◌, Bool, true, not, ◌&&◌, ltb, leb, List, [], ◌∷◌, take, Some, filter, Ordering, sym, ap, subst, ◌∙◌, zero-add, one-add, arith}
 use Rattle.std.specs.List.{slice_get, range_with_len}
 use Rattle.std.specs.Ordering.{is_le, is_lt}
 use Rattle.std.proofs.lemmas.List.FromFn.{length-map-range_with_len, get_or-map-range_with_len}
-use Rattle.std.proofs.lemmas.Bool.{cases_lt, lt-ltb, le-ltb, le-leb, lt-leb}
+use Rattle.std.proofs.lemmas.Bool.Decides.{nat_tests}
 use Rattle.orders.specs.declared.side.Side.{Side}
 use Rattle.orders.specs.declared.side.Side.TheVariants.{Low, High}
 use Rattle.orders.specs.Laws.{LawfulOrder}
@@ -24,18 +24,10 @@ use Rattle.cascade.proofs.Ranging.{slots-once, spans-counted}
 -- a test that falls passes at the places before the number of those that pass
 module _ {X : Type 0} (f : X → Bool) (xs : List X) (falls : Falls f xs) (i : ℕ) where
   before-is : ltb i (count f xs) ≡ test_at f xs i
-  before-is =
-      elim (cases_lt i (count f xs)) [
-        | inl l ↦ lt-ltb i (count f xs) l ∙ sym (test-before f xs i falls l)
-        | inr l ↦ le-ltb i (count f xs) l ∙ sym (test-after f xs i falls l)
-      ]
+  before-is = grind (arith, nat_tests, test-before f xs i falls, test-after f xs i falls)
 
   behind-is : leb (count f xs) i ≡ not (test_at f xs i)
-  behind-is =
-      elim (cases_lt i (count f xs)) [
-        | inl l ↦ lt-leb (count f xs) i l ∙ sym (ap not (test-before f xs i falls l))
-        | inr l ↦ le-leb (count f xs) i l ∙ sym (ap not (test-after f xs i falls l))
-      ]
+  behind-is = grind (arith, nat_tests, test-before f xs i falls, test-after f xs i falls)
 
 module _ {K : Type 0} where
   -- the place of a point among those that are kept
@@ -47,10 +39,7 @@ module _ {K : Type 0} where
       rw (ap c m ∙ k) (ap (λ y. f y.1) m)
   test-kept c f (x ∷ xs) (suc i) p e k =
       let ih = test-kept c f xs i p e k in
-      elim (c x) as (λ b. test_at f (keys_of (cond b (x ∷ filter c xs) (filter c xs))) (bit b + count c (take i xs)) ≡ f p.1) [
-        | true ↦ rw one-add ih
-        | false ↦ rw zero-add ih
-      ]
+      grind (arith, one-add, zero-add, ih)
 
   sieve-keys : (ps : List (BarePoint K)) (v : ℕ) → v < sieve_lists → keys_at (sieved_keys ps) v ≡ keys_of (filter (λ p. covers v p.0) ps)
   sieve-keys ps v l = ap (λ (b : ℕ × List K). b.1) (get_or-map-range_with_len (sieved_list ps) 0 sieve_lists v v (0, []) l (zero-add v))
@@ -85,16 +74,10 @@ module _ {K : Type 0} (order : K → K → Ordering) (laws : LawfulOrder order) 
           falls-keys order laws side q (keys_at (sieved_keys ps) v) (sorted-from-in-order order laws (keys_at (sieved_keys ps) v) (rising v there))
 
       holds-is : holds ps i p.0 (span_of v) ≡ (covers v p.0 && between)
-      holds-is = go (covers v p.0) refl
-        where
-          go : (c : Bool) → covers v p.0 ≡ c
-              → (c && (leb (place order Low low (keys_at (sieved_keys ps) v)) rank && ltb rank (place order High high (keys_at (sieved_keys ps) v)))) ≡ (c && between)
-          go true e =
-              ap (λ x. x && ltb rank (place order High high (keys_at (sieved_keys ps) v)))
-              (behind-is (passed order Low low) (keys_at (sieved_keys ps) v) (falls_at Low low) rank ∙ ap not (passed-at Low low e))
-              ∙ ap (λ x. not (is_lt (order p.1 low)) && x)
-              (before-is (passed order High high) (keys_at (sieved_keys ps) v) (falls_at High high) rank ∙ passed-at High high e)
-          go false e = refl
+      holds-is =
+          let l = behind-is (passed order Low low) (keys_at (sieved_keys ps) v) (falls_at Low low) rank in
+          let h = before-is (passed order High high) (keys_at (sieved_keys ps) v) (falls_at High high) rank in
+          grind (arith, l, h, passed-at Low low, passed-at High high)
 
     once : (a b : ℕ) → a ≤ b → b < slot_count → count (holds ps i p.0) (spans order (sieved_keys ps) a b low high) ≡ bit (in_rectangle order a b low high p)
     once a b up top =

@@ -1,7 +1,8 @@
 -- How many lists a range visits and chooses, which slots they cover, and how many comparisons it takes.
-use Rattle.std.proofs.Common.{◌≡◌, ℕ, suc, ◌+◌, ◌*◌, ◌<◌, ◌≤◌, Bool, true, false, ◌&&◌, ltb, leb, List, [], ◌∷◌, length, sum_by, filter, Ordering, sym, refl, ap, ◌∙◌, subst, le_trans, arith}
+use Rattle.std.proofs.Common.{◌≡◌, ℕ, suc, ◌+◌, ◌*◌, ◌<◌, ◌≤◌, Bool, true, ◌&&◌, ltb, leb, List, [], ◌∷◌, length, sum_by, filter, Ordering, sym, refl, ap, ◌∙◌, subst, le_trans, arith}
 use Rattle.std.specs.List.{range_with_len, AllByRecursion as All}
 use Rattle.std.proofs.ByRecursion.{all_kept_by, sum_by_le}
+use Rattle.std.proofs.Math.Bool.{and-true, and_assoc}
 use Rattle.std.proofs.lemmas.List.Sums.{sum_by-cons}
 use Rattle.std.proofs.lemmas.Bool.Decides.{nat_tests}
 use Rattle.orders.specs.declared.side.Side.TheVariants.{Low, High}
@@ -13,17 +14,13 @@ use Rattle.cascade.specs.Trees.{KeyTree, ParentsSmaller, keys_at, augmented}
 use Rattle.cascade.specs.Walks.{arrival, walked_place}
 use Rattle.cascade.specs.SlotTree.{inside, visited, chosen, visited_lists, chosen_lists, SieveShaped}
 use Rattle.cascade.specs.SlotTheorems.{FewChosen, FewVisited, SlotsOnce, RangeWithin, SpansCounted}
-use Rattle.cascade.proofs.Counts.{and-true, length-kept, count_kept, count_same}
+use Rattle.cascade.proofs.Counts.{length-kept, count_kept, count_same}
 use Rattle.cascade.proofs.Numbering.{all_among, map-among}
 use Rattle.cascade.proofs.Nodes.{number_of, inside_at, covers_at, inside_is, covers-is, chosen_is}
 use Rattle.cascade.proofs.Subtrees.{walk, count-visited}
 use Rattle.cascade.proofs.Computed.{choice, choice-few, walk-few, choice-covers}
 use Rattle.cascade.proofs.Bridges.{root-search}
 use Rattle.cascade.proofs.Walking.{step-most, walks}
-
-and_assoc : (x y z : Bool) → ((x && y) && z) ≡ (x && (y && z))
-and_assoc true y z = refl
-and_assoc false y z = refl
 
 count-all : {X : Type 0} (xs : List X) → count (λ x. true) xs ≡ length xs
 count-all [] = refl

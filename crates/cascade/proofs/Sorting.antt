@@ -4,10 +4,6 @@ use Rattle.orders.specs.Places.{count}
 use Rattle.cascade.specs.Lists.{insert, sort, Low, Sorted}
 use Rattle.cascade.proofs.Counts.{Falls}
 
-pub false-by : (b : Bool) → (b ≡ true → ⊥) → b ≡ false
-false-by true h = absurd (h refl)
-false-by false h = refl
-
 -- what a relation says of all elements of a list it says of the list in order
 module _ {X : Type 0} (R le : X → X → Bool) where
   pub low-insert : (z x : X) (ys : List X) → R z x ≡ true → Low R z ys → Low R z (insert le x ys)

@@ -1,10 +1,9 @@
 -- All augmented lists together: at most four elements for three keys.
-use Rattle.std.proofs.Common.{◌≡◌, ℕ, suc, ◌+◌, ◌*◌, ◌/◌, ◌≤◌, true, false, cond, eqb, ltb, List, [], ◌∷◌, ◌++◌, length, sum_by, Ordering, refl, ◌∙◌, arith, length-append}
+use Rattle.std.proofs.Common.{◌≡◌, ℕ, suc, ◌+◌, ◌*◌, ◌/◌, ◌≤◌, cond, eqb, ltb, List, [], ◌∷◌, ◌++◌, length, sum_by, Ordering, refl, ◌∙◌, arith, length-append}
 use lib.ListN.{length-map}
 use Rattle.std.proofs.lemmas.List.Sums.{sum_by-cons}
 use Rattle.std.proofs.lemmas.Bool.Decides.{nat_tests}
-use Rattle.cascade.specs.Lists.{samples}
-use Rattle.cascade.specs.Trees.{KeyTree, Tagged, own_source, keys_of, tag, tag_all, not_above, augment, child_samples, augmented_from, all_keys}
+use Rattle.cascade.specs.Trees.{KeyTree, Tagged, own_source, tag, tag_all, not_above, augment, child_samples, augmented_from, all_keys}
 use Rattle.cascade.specs.Theorems.{Space}
 use Rattle.cascade.proofs.Counts.{length-sort, length-samples}
 
@@ -33,10 +32,7 @@ module _ {K : Type 0} where
   length-under j v (b ∷ bs) (g ∷ gs) =
       let more = length-under (suc j) v bs gs in
       let same = length-under j v bs gs in
-      elim (eqb b.0 v) as (λ c. length (tag_all j (cond c (samples (keys_of g) ∷ child_samples v bs gs) (child_samples v bs gs))) ≡ cond c (length g / 4 + under v bs gs) (under v bs gs)) [
-        | true ↦ rw (length-append, length-map, length-samples, length-map) (omega arith)
-        | false ↦ same
-      ]
+      grind (arith, length-append, length-map, length-samples, more, same)
 
   below_suc : (v : ℕ) (bs : KeyTree K) (gs : List (List (Tagged K))) → below (suc v) bs gs ≡ below v bs gs + under v bs gs
   unfolding below under

@@ -1,12 +1,12 @@
 -- The lists that a range visits, found by a walk from the root down.
-use Rattle.std.proofs.Common.{◌≡◌, ℕ, zero, suc, ◌+◌, ◌-◌, ◌*◌, ◌/◌, ◌^◌, ◌<◌, ◌≤◌, Bool, true, false, cond, not, ◌&&◌, List, [], ◌∷◌, ◌++◌, sym, refl, ap, ◌∙◌, add-zero, add-suc, arith}
+use Rattle.std.proofs.Common.{◌≡◌, ℕ, zero, suc, ◌+◌, ◌-◌, ◌*◌, ◌/◌, ◌^◌, ◌<◌, ◌≤◌, Bool, true, false, cond, ◌&&◌, List, [], ◌∷◌, ◌++◌, sym, refl, ap, ◌∙◌, add-zero, add-suc, arith}
 use native.Mathlib.Nat.{two-pow-succ, pow-le-pow_right}
 use Rattle.std.specs.List.{range_with_len}
 use Rattle.std.proofs.lemmas.Nat.{pow_pos}
-use Rattle.std.proofs.lemmas.Bool.{and_left, and_right, and_from}
+use Rattle.std.proofs.lemmas.Bool.{and_right, and_from}
 use Rattle.orders.specs.Places.{bit, count}
 use Rattle.shelves.specs.Slots.{sieve_lists}
-use Rattle.cascade.specs.SlotTree.{meets, inside, visited}
+use Rattle.cascade.specs.SlotTree.{inside, visited}
 use Rattle.cascade.proofs.Counts.{count-append}
 use Rattle.cascade.proofs.Numbering.{count-split}
 use Rattle.cascade.proofs.Nodes.{number_of, meets_at, inside_at, meets-is, inside_is, clear, clear-is, clear-below, visited-below}
@@ -81,22 +81,14 @@ walk a b (suc h) j =
 module _ (a b : ℕ) where
   -- what is not visited has nothing below it that is
   dark-child : (d h i j : ℕ) → i < 2 ^ suc d → suc d + h ≡ 6 → i / 2 ≡ j → visited a b (number_of d j) ≡ false → visited a b (number_of (suc d) i) ≡ false
-  dark-child d h i j l e k f =
-      visited-below a b d h i l e
-      ∙ and_left (visited a b (number_of d (i / 2))) _ (ap (λ n. visited a b (number_of d n)) k ∙ f)
+  dark-child d h i j l e k f = let b = visited-below a b d h i l e in grind (arith, b, k, f)
 
   -- nor has what is inside
   inside-child : (d h i j : ℕ) → i < 2 ^ suc d → suc d + h ≡ 6 → i / 2 ≡ j → inside a b (number_of d j) ≡ true → visited a b (number_of (suc d) i) ≡ false
-  inside-child d h i j l e k f =
-      visited-below a b d h i l e
-      ∙ and_right (visited a b (number_of d (i / 2))) _ (ap (λ c. not c && meets a b (number_of (suc d) i)) (ap (λ n. inside a b (number_of d n)) k ∙ f))
+  inside-child d h i j l e k f = let b = visited-below a b d h i l e in grind (arith, b, k, f)
 
   clear-child : (d i j : ℕ) → i / 2 ≡ j → clear a b d j ≡ true → inside a b (number_of d j) ≡ false → clear a b (suc d) i ≡ true
-  clear-child d i j k c f =
-      clear-below a b d i
-      ∙ ap (λ n. not (clear a b d n && inside a b (number_of d n)) && clear a b d n) k
-      ∙ ap (λ x. not (clear a b d j && x) && clear a b d j) f
-      ∙ ap (λ x. not (x && false) && x) c
+  clear-child d i j k c f = let b = clear-below a b d i in grind (arith, b, k, c, f)
 
   module _ (g : ℕ → Bool) where
     abbrev seen : ℕ → Bool

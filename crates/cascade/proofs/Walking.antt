@@ -3,6 +3,7 @@ use Rattle.std.proofs.Common.{◌≡◌, ℕ, zero, suc, ◌+◌, ◌*◌, ◌<�
 use Rattle.std.proofs.lemmas.List.{map-append}
 use Rattle.std.proofs.lemmas.List.Sums.{sum_by_push}
 use Rattle.std.proofs.lemmas.Bool.{cases_eq, eq-eqb, ne_eqb}
+use Rattle.std.proofs.lemmas.Bool.Decides.{nat_tests}
 use Rattle.orders.specs.declared.side.Side.{Side}
 use Rattle.orders.specs.Laws.{LawfulOrder}
 use Rattle.orders.specs.Numbers.{bit_length}
@@ -21,12 +22,9 @@ module _ {K : Type 0} (order : K → K → Ordering) (t : KeyTree K) (side : Sid
   arrival-any smaller zero (suc n) v h k l = rw (eq-eqb v 0 (omega arith))
   arrival-any smaller (suc m) zero v h k l = rw (eq-eqb v 0 (omega arith))
   arrival-any smaller (suc m) (suc n) v h k l =
-      elim (cases_eq v 0) [
-        | inl e ↦ rw (eq-eqb v 0 e)
-        | inr d ↦
-            let s = smaller v (omega arith) l in
-            rw (ne_eqb v 0 d) (ap (λ r. edge_arrival order t side q v r.0) (arrival-any smaller m n (parent_of t v) (omega arith) (omega arith) (omega arith)))
-      ]
+      let s = smaller v in
+      let ih = arrival-any smaller m n (parent_of t v) in
+      grind (arith, nat_tests, s, ih)
 
   -- from the parent's arrival by an edge step
   pub arrival-step : ParentsSmaller t → (v : ℕ) → 0 < v → v < length t → arrival order t side q v ≡ edge_arrival order t side q v (arrival order t side q (parent_of t v)).0

@@ -1,9 +1,10 @@
 -- An augmented list is the one list that its definition in words describes.
-use Rattle.std.proofs.Common.{◌≡◌, ℕ, zero, suc, ◌<◌, ◌≤◌, Bool, true, false, cond, eqb, leb, List, [], ◌∷◌, ◌++◌, length, get_or, filter, Ordering, Less, Equal, Greater, sym, refl, ap, ◌∙◌, subst, inl, inr, arith}
+use Rattle.std.proofs.Common.{◌≡◌, ℕ, zero, suc, ◌<◌, ◌≤◌, Bool, true, false, cond, leb, List, [], ◌∷◌, ◌++◌, length, get_or, Ordering, sym, refl, ap, ◌∙◌, subst, inl, inr, arith}
 use lib.ListN.{length-map}
 use Rattle.std.specs.Ordering.{is_le, is_lt, ordering_reverse}
 use Rattle.std.proofs.lemmas.List.{get_or_past}
-use Rattle.std.proofs.lemmas.Bool.{both_ways, cases_eq, cases_lt, eq-eqb, ne_eqb, eqb-true, leb-true, leb-false, le-leb}
+use Rattle.std.proofs.lemmas.Bool.{cases_eq, cases_lt, eq-eqb, ne_eqb, le-leb}
+use Rattle.std.proofs.lemmas.Bool.Decides.{nat_tests}
 use Rattle.orders.specs.Laws.{LawfulOrder}
 use Rattle.cascade.specs.Lists.{samples, insert, sort, Low, Sorted}
 use Rattle.cascade.specs.Trees.{KeyTree, Tagged, own_source, child_source, keys_at, ParentsSmaller, children_of, ordinal, keys_of, tag, tag_all, not_above, augmented}
@@ -20,26 +21,18 @@ abbrev rank : Ordering → ℕ → ℕ → Bool
 rank o m n = cond (is_lt o) true (cond (is_le o) (leb m n) false)
 
 rank-total : (o : Ordering) (m n : ℕ) → rank o m n ≡ false → rank (ordering_reverse o) n m ≡ true
-rank-total Less m n e = sym e
-rank-total Equal m n e = let l = leb-false m n e in le-leb n m (omega arith)
-rank-total Greater m n e = refl
+rank-total o m n e = grind (arith, nat_tests)
 
 -- before one another only from the same source
 rank-apart : (o : Ordering) (m n : ℕ) → rank o m n ≡ true → rank (ordering_reverse o) n m ≡ true → m ≡ n
-rank-apart Less m n e f = absurd (both_ways false refl f)
-rank-apart Equal m n e f = let l = leb-true m n e in let k = leb-true n m f in omega arith
-rank-apart Greater m n e f = absurd (both_ways false refl e)
+rank-apart o m n e f = grind (arith, nat_tests)
 
 -- where sources rise, they decide nothing
 rank_up : (o : Ordering) (m n : ℕ) → leb m n ≡ true → is_le o ≡ rank o m n
-rank_up Less m n e = refl
-rank_up Equal m n e = sym e
-rank_up Greater m n e = refl
+rank_up o m n e = grind (arith, nat_tests)
 
 rank-le : (o : Ordering) (m n : ℕ) → rank o m n ≡ true → is_le o ≡ true
-rank-le Less m n e = refl
-rank-le Equal m n e = refl
-rank-le Greater m n e = e
+rank-le o m n e = grind (arith, nat_tests)
 
 module _ {K : Type 0} where
   abbrev source_le : Tagged K → Tagged K → Bool
@@ -81,44 +74,16 @@ module _ {K : Type 0} (order : K → K → Ordering) where
 
 module _ {K : Type 0} (order : K → K → Ordering) (laws : LawfulOrder order) where
   before-total : (x y : Tagged K) → before order x y ≡ false → before order y x ≡ true
-  before-total x y e = ap (λ o. rank o y.0 x.0) (laws.exchange x.1 y.1) ∙ rank-total (order x.1 y.1) x.0 y.0 e
-
-  -- one below another is above or the same as nothing that is not above the other
-  not_back : (a b : K) → order a b ≡ Less → key_le order b a ≡ true → ⊥
-  not_back a b e f = both_ways (key_le order b a) (ap is_le (laws.exchange a b) ∙ ap (λ o. is_le (ordering_reverse o)) e) f
-
-  same_back : (a b : K) → order a b ≡ Equal → key_le order b a ≡ true
-  same_back a b e = ap is_le (laws.exchange a b) ∙ ap (λ o. is_le (ordering_reverse o)) e
+  before-total x y e = grind (arith, nat_tests, laws.exchange x.1 y.1)
 
   before-trans : (x y z : Tagged K) → before order x y ≡ true → before order y z ≡ true → before order x z ≡ true
-  before-trans x y z = go (order x.1 y.1) (order y.1 z.1) (order x.1 z.1) refl refl refl
-    where
-      go : (o p r : Ordering) → order x.1 y.1 ≡ o → order y.1 z.1 ≡ p → order x.1 z.1 ≡ r
-          → rank o x.0 y.0 ≡ true → rank p y.0 z.0 ≡ true → rank r x.0 z.0 ≡ true
-      go o p Less h k l e f = refl
-      go Less p Equal h k l e f = absurd (not_back x.1 y.1 h (key-trans order laws y.1 z.1 x.1 (ap is_le k ∙ rank-le p y.0 z.0 f) (same_back x.1 z.1 l)))
-      go Equal Less Equal h k l e f = absurd (not_back y.1 z.1 k (key-trans order laws z.1 x.1 y.1 (same_back x.1 z.1 l) (ap is_le h)))
-      go Equal Equal Equal h k l e f =
-          let m = leb-true x.0 y.0 e in
-          let n = leb-true y.0 z.0 f in
-          le-leb x.0 z.0 (omega arith)
-      go Equal Greater Equal h k l e f = absurd (both_ways false refl f)
-      go Greater p Equal h k l e f = absurd (both_ways false refl e)
-      go o p Greater h k l e f =
-          absurd (both_ways (key_le order x.1 z.1) (ap is_le l)
-          (key-trans order laws x.1 y.1 z.1 (ap is_le h ∙ rank-le o x.0 y.0 e) (ap is_le k ∙ rank-le p y.0 z.0 f)))
+  before-trans x y z e f =
+      grind (arith, nat_tests, laws.exchange x.1 y.1, laws.exchange y.1 z.1, laws.exchange x.1 z.1, laws.not_above x.1 y.1 z.1, laws.not_above y.1 z.1 x.1, laws.not_above z.1 x.1 y.1)
 
   -- the first key of a part stands behind what stands before all
   low_part : (x : Tagged K) (source : ℕ) (xs : List (Tagged K)) (k : K) (ks : List K) → Low (before order) x xs → part_of source xs ≡ k ∷ ks → before order x (source, k) ≡ true
   low_part x source [] k ks l e = let z : ◌≡◌ {A = ℕ} 0 (suc (length ks)) = ap length e in absurd (omega arith)
-  low_part x source (y ∷ ys) k ks l e = go (low_part x source ys k ks l.1) (eqb y.0 source) refl e
-    where
-      go : (part_of source ys ≡ k ∷ ks → before order x (source, k) ≡ true) → (c : Bool) → eqb y.0 source ≡ c
-          → keys_of (cond c (y ∷ filter (λ z. eqb z.0 source) ys) (filter (λ z. eqb z.0 source) ys)) ≡ k ∷ ks → before order x (source, k) ≡ true
-      go ih true m g =
-          let i : y.1 ≡ k = cc in
-          ap (λ s. rank (order x.1 k) x.0 s) (sym (eqb-true y.0 source m)) ∙ ap (λ j. rank (order x.1 j) x.0 y.0) (sym i) ∙ l.0
-      go ih false m g = ih g
+  low_part x source (y ∷ ys) k ks l e = let ih = low_part x source ys k ks l.1 in grind (arith, nat_tests, ih, l.0, e)
 
   part-here : (x : Tagged K) (xs : List (Tagged K)) → part_of x.0 (x ∷ xs) ≡ x.1 ∷ part_of x.0 xs
   part-here x xs = rw (eq-eqb x.0 x.0 refl)

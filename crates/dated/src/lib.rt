@@ -16,16 +16,14 @@ pub mod words;
 use key::DatedKey;
 use words::Words;
 
-// The day is compared first, then the serial.
+// The day is compared first, then the serial, as the fields of the key stand.
 impl KeyOrder for DatedKey {
     ghost order = { day_order };
 
     ghost lawful = { Prim.search rules };
 
     fn compare(&self, other: &DatedKey) -> Ordering {
-        self.day
-            .cmp(&other.day)
-            .then(self.serial.cmp(&other.serial))
+        self.cmp(other)
     }
 }
 

@@ -1,10 +1,7 @@
--- The text of the places of a refusal.
-use Rattle.std.specs.Prelude.{ℕ, List, []}
-use Rattle.faults.specs.Sentences.{one, two}
-use Rattle.faults.specs.declared.sentences.Places.{Places}
-use Rattle.faults.specs.declared.sentences.Places.TheVariants.{Nowhere, One, Two}
+-- What a refusal of a key says of its field.
+use Rattle.std.specs.Prelude.{ℕ, List, [], cond, codes, ◌==◌}
+use Rattle.faults.specs.Sentences.{one}
 
-abbrev pub told : Places → List ℕ
-told Nowhere = []
-told (One words n) = one words.now n
-told (Two words n more m) = two words.now n more.now m
+-- the field at a byte, and nothing where there is none
+abbrev pub in_field : ℕ → List ℕ
+in_field at = cond (at == 0) [] (one (codes ", in the field at byte ") at)

@@ -1,51 +1,30 @@
 // Refusals as sentences, for a reader who does not know the numbers.
-ghost use Rattle.std.specs.Prelude.{◌≡◌, Some};
-ghost use Rattle.faults.specs.Places.{told};
-ghost use Rattle.faults.specs.Sentences.{layer_name, rule_of, places_of, key_places, index_memory, load_memory, sentence};
+ghost use Rattle.std.specs.Prelude.{Some};
+ghost use Rattle.faults.specs.Places.{in_field};
+ghost use Rattle.faults.specs.Sentences.{layer_name, rule_of, places_of, sentence};
 
 use crate::{Fault, Layer, Reason};
 use std::fmt;
 
-// Where a rule was broken, in words and numbers.
-#[derive(Clone, Copy)]
-enum Places {
-    Nowhere,
-    One(&'static str, usize),
-    Two(&'static str, usize, &'static str, usize),
-}
-
-impl fmt::Display for Places {
-    ghost output = { λ p. Some (told p) };
+impl fmt::Display for Layer {
+    ghost output = { λ l. Some (layer_name l) };
 
     fn fmt<W: fmt::Write>(&self, f: &mut fmt::Formatter<W>) -> fmt::Result {
-        match *self {
-            Places::Nowhere => write!(f, ""),
-            Places::One(words, n) => write!(f, "{words}{n}"),
-            Places::Two(words, n, more, m) => write!(f, "{words}{n}{more}{m}"),
-        }
-    }
-}
-
-impl Layer {
-    // The layer's name.
-    fn name(self) -> &'static str
-        ensures { result.now ≡ layer_name self }
-    {
-        match self {
+        f.write_str(match self {
             Layer::Key => "key",
             Layer::File => "file",
             Layer::Index => "index",
             Layer::Job => "job",
-        }
+        })
     }
 }
 
-impl Reason {
-    // The rule that was broken.
-    fn rule(self) -> &'static str
-        ensures { result.now ≡ rule_of self }
-    {
-        match self {
+// The rule that was broken.
+impl fmt::Display for Reason {
+    ghost output = { λ r. Some (rule_of r) };
+
+    fn fmt<W: fmt::Write>(&self, f: &mut fmt::Formatter<W>) -> fmt::Result {
+        f.write_str(match self {
             Reason::KeyLength => "a term has 1 to 32 bytes",
             Reason::KeyZeroByte => "a term holds no zero byte",
             Reason::SlotAboveLimit => "a slot is at most 63",
@@ -68,78 +47,67 @@ impl Reason {
             Reason::FieldNumber => "the number in this field is wrong",
             Reason::LoadMemoryShort => "the memory to load into is too small",
             Reason::SheetTooLong => "a sheet has at most 65,535 bytes",
-        }
+        })
     }
 }
 
-// Where a key was refused; inside a file its field is named too.
-fn key_places(words: &'static str, first: usize, second: usize) -> Places
-    ensures { told result ≡ key_places words.now first second }
-{
-    if second == 0 {
-        Places::One(words, first)
-    } else {
-        Places::Two(words, first, ", in the field at byte ", second)
-    }
-}
+// Where the rule was broken: what the two places of a refusal count, by its reason.
+#[derive(Clone, Copy)]
+struct Places(Fault);
 
-// Which of the index's memories is too small for what it would hold.
-fn index_memory(which: usize, needed: usize) -> Places
-    ensures { told result ≡ index_memory which needed }
-{
-    if which == 1 {
-        Places::One(" for the keys, which take ", needed)
-    } else if which == 2 {
-        Places::One(" for the rows, which take ", needed)
-    } else {
-        Places::One(" for the payloads, which take ", needed)
-    }
-}
+impl fmt::Display for Places {
+    ghost output = { λ p. Some (places_of p.0.reason p.0.first p.0.second) };
 
-// Which of the memories to load into is too small for what it would hold.
-fn load_memory(which: usize, needed: usize) -> Places
-    ensures { told result ≡ load_memory which needed }
-{
-    if which == 1 {
-        Places::One(" for the lists, which take ", needed)
-    } else {
-        Places::One(" for the entries, which take ", needed)
-    }
-}
-
-impl Fault {
-    // Where the rule was broken.
-    fn places(&self) -> Places
-        ensures { told result ≡ places_of self.now.reason self.now.first self.now.second }
-    {
+    fn fmt<W: fmt::Write>(&self, f: &mut fmt::Formatter<W>) -> fmt::Result {
         let Fault {
             reason,
             first,
             second,
             ..
-        } = *self;
+        } = self.0;
         match reason {
-            Reason::KeyLength => key_places(", not ", first, second),
-            Reason::KeyZeroByte => key_places(", as this one at its place ", first, second),
-            Reason::SlotAboveLimit => Places::One(", not as that of point ", first),
-            Reason::ListCount | Reason::SheetTooLong => Places::One(", not ", first),
-            Reason::ParentNotSmaller => Places::Two(
-                ", not as list ",
-                first,
-                " with the parent ",
-                second,
+            Reason::KeyLength => write!(f, ", not {first}{}", InField(second)),
+            Reason::KeyZeroByte => write!(
+                f,
+                ", as this one at its place {first}{}",
+                InField(second)
             ),
-            Reason::TooDeep => Places::One(", not as list ", first),
-            Reason::TooManyChildren => Places::One(", too many with list ", first),
-            Reason::TooManyEntries => Places::One(", passed in list ", first),
-            Reason::KeyOutOfOrder => Places::Two(", not as in list ", first, " at place ", second),
-            Reason::IndexMemoryShort => index_memory(first, second),
-            Reason::NoSuchList => Places::One(": list ", first),
-            Reason::NoSuchPlace => Places::Two(": list ", first, ", place ", second),
-            Reason::NotSieved | Reason::KeyLimits => Places::Nowhere,
-            Reason::SlotLimits => Places::Two(", not from ", first, " to ", second),
-            Reason::LoadMemoryShort => load_memory(first, second),
-            _ => Places::One(", at byte ", first),
+            Reason::SlotAboveLimit => write!(f, ", not as that of point {first}"),
+            Reason::ListCount | Reason::SheetTooLong => write!(f, ", not {first}"),
+            Reason::ParentNotSmaller => write!(f, ", not as list {first} with the parent {second}"),
+            Reason::TooDeep => write!(f, ", not as list {first}"),
+            Reason::TooManyChildren => write!(f, ", too many with list {first}"),
+            Reason::TooManyEntries => write!(f, ", passed in list {first}"),
+            Reason::KeyOutOfOrder => write!(f, ", not as in list {first} at place {second}"),
+            Reason::IndexMemoryShort => match first {
+                1 => write!(f, " for the keys, which take {second}"),
+                2 => write!(f, " for the rows, which take {second}"),
+                _ => write!(f, " for the payloads, which take {second}"),
+            },
+            Reason::NoSuchList => write!(f, ": list {first}"),
+            Reason::NoSuchPlace => write!(f, ": list {first}, place {second}"),
+            Reason::NotSieved | Reason::KeyLimits => Ok(()),
+            Reason::SlotLimits => write!(f, ", not from {first} to {second}"),
+            Reason::LoadMemoryShort => match first {
+                1 => write!(f, " for the lists, which take {second}"),
+                _ => write!(f, " for the entries, which take {second}"),
+            },
+            _ => write!(f, ", at byte {first}"),
+        }
+    }
+}
+
+// The field of a file in which a key was refused, by its byte; 0 stands for none, since five bytes open a file.
+#[derive(Clone, Copy)]
+struct InField(usize);
+
+impl fmt::Display for InField {
+    ghost output = { λ i. Some (in_field i.0) };
+
+    fn fmt<W: fmt::Write>(&self, f: &mut fmt::Formatter<W>) -> fmt::Result {
+        match self.0 {
+            0 => Ok(()),
+            at => write!(f, ", in the field at byte {at}"),
         }
     }
 }
@@ -149,10 +117,8 @@ impl fmt::Display for Fault {
     ghost output = { λ f. Some (sentence f) };
 
     fn fmt<W: fmt::Write>(&self, f: &mut fmt::Formatter<W>) -> fmt::Result {
-        let number = self.reason.number();
-        let layer = self.layer.name();
-        let rule = self.reason.rule();
-        let places = self.places();
-        write!(f, "refused ({number}, {layer}): {rule}{places}")
+        let Fault { reason, layer, .. } = self;
+        let number = reason.number();
+        write!(f, "refused ({number}, {layer}): {reason}{}", Places(*self))
     }
 }

@@ -1,6 +1,7 @@
 -- Steps to the root.
-use Rattle.std.proofs.Common.{◌≡◌, ℕ, zero, suc, ◌+◌, ◌<◌, ◌≤◌, List, length, None, sym, refl, ap, ◌∙◌, arith, le-ltb, lt-ltb, ne_eqb}
+use Rattle.std.proofs.Common.{◌≡◌, ℕ, zero, suc, ◌+◌, ◌<◌, ◌≤◌, List, length, get_or, None, sym, refl, ap, ◌∙◌, arith, le-ltb, lt-ltb, ne_eqb}
 use Rattle.std.proofs.lemmas.Bool.Decides.{nat_tests}
+use Rattle.std.proofs.lemmas.List.{get_or_default}
 use Rattle.shelves.specs.declared.rows.ListRow.{ListRow}
 use Rattle.galdrisco.specs.Depths.{parent_of, climbed}
 
@@ -35,3 +36,7 @@ absent rows list steps some none = one_more rows list steps ∙ rw (ne_eqb list 
 pub barred : (rows : List ListRow) (list steps : ℕ) → (list ≡ 0 → ⊥) → list < length rows → list ≤ parent_of rows list → climbed list rows list steps ≡ None
 barred rows list steps some exists larger =
     one_more rows list steps ∙ rw (ne_eqb list 0 some, lt-ltb list (length rows) exists, le-ltb (parent_of rows list) list larger)
+
+-- a row that was read at a list that exists
+pub found : (rows : List ListRow) (list : ℕ) (row : ListRow) → list < length rows → row ≡ get_or rows list row → row.parent ≡ parent_of rows list
+found rows list row exists is = ap (λ (r : ListRow). r.parent) (is ∙ get_or_default rows list row _ exists)

@@ -1,34 +1,43 @@
-// What is printed of the answers of an index.
-use crate::text::{Counted, MarkWords};
+// The answers of an index as tables.
+use crate::text::{Counted, MarkWords, Noun};
 use register::answers::{Lookup, Offer};
-use std::io;
+use std::fmt;
 use terms::marks::Marks;
 
-// Prints a table of the lists from the root to the end list, with the place of the sought term in each.
-pub fn print_lookup(rt: &HostRuntime, found: &Lookup) -> io::Result<()> {
-    rt.print("  list  place\n")?;
-    for stop in found.stops.iter().take(found.used) {
-        let list = stop.list;
-        let place = stop.place;
-        println!(rt; "{list:>6}  {place:>5}")?;
+// The lists from the root to the end list, with the place of the sought term in each.
+#[derive(Clone, Copy)]
+pub struct LookupTable<'a>(pub &'a Lookup);
+
+impl fmt::Display for LookupTable<'_> {
+    fn fmt<W: fmt::Write>(&self, f: &mut fmt::Formatter<W>) -> fmt::Result {
+        f.write_str("  list  place\n")?;
+        for stop in self.0.path() {
+            let list = stop.list;
+            let place = stop.place;
+            writeln!(f, "{list:>6}  {place:>5}")?;
+        }
+        let comparisons = Counted(self.0.comparisons, Noun::Comparison);
+        writeln!(f, "{comparisons}")
     }
-    let comparisons = Counted::comparisons(found.comparisons);
-    println!(rt; "{comparisons}")
 }
 
-// Prints a table of the lists from the root to the end list, with the places of the offered entries in each; then how
-// many there are, and the marks of all of them.
-pub fn print_offer(rt: &HostRuntime, found: &Offer<Marks>) -> io::Result<()> {
-    rt.print("  list  first  after\n")?;
-    for span in found.spans.iter().take(found.used) {
-        let list = span.list;
-        let first = span.first;
-        let after = span.after;
-        println!(rt; "{list:>6}  {first:>5}  {after:>5}")?;
+// The lists from the root to the end list, with the places of the offered entries in each; then how many there are, and the
+// marks of all of them.
+#[derive(Clone, Copy)]
+pub struct OfferTable<'a>(pub &'a Offer<Marks>);
+
+impl fmt::Display for OfferTable<'_> {
+    fn fmt<W: fmt::Write>(&self, f: &mut fmt::Formatter<W>) -> fmt::Result {
+        f.write_str("  list  first  after\n")?;
+        for span in self.0.used_spans() {
+            let list = span.list;
+            let first = span.first;
+            let after = span.after;
+            writeln!(f, "{list:>6}  {first:>5}  {after:>5}")?;
+        }
+        let entries = Counted(self.0.entries, Noun::Entry);
+        let marks = MarkWords(self.0.payload);
+        let comparisons = Counted(self.0.comparisons, Noun::Comparison);
+        writeln!(f, "{entries}{marks}\n{comparisons}")
     }
-    let entries = Counted::entries(found.entries);
-    let marks = MarkWords(found.payload);
-    println!(rt; "{entries}{marks}")?;
-    let comparisons = Counted::comparisons(found.comparisons);
-    println!(rt; "{comparisons}")
 }

@@ -11,11 +11,9 @@ pub fn depth(lists: &[ListRow], list: usize) -> Option<usize>
 {
     let mut at = list;
     let mut steps = 0;
+    // By parents, which stand in no order that a slice has.
     while at != 0 {
-        if at >= lists.len() {
-            return None;
-        }
-        let parent = lists[at].parent;
+        let parent = lists.get(at)?.parent;
         if parent >= at {
             return None;
         }

@@ -10,12 +10,11 @@ mod questions;
 mod sheets;
 mod text;
 mod trees;
+mod trouble;
 
-// The status is 0 where all that was asked for was granted, otherwise 1.
 fn main(rt: HostRuntime) -> ExitCode {
     match commands::run(&rt) {
-        Ok(true) => ExitCode::SUCCESS,
-        Ok(false) => ExitCode::FAILURE,
+        Ok(status) => status,
         Err(error) => {
             // Where this cannot be written either, the status alone tells it.
             let _ = eprintln!(rt; "galdrisco: {error}");

@@ -1,48 +1,54 @@
-// The words of the questions that an index answers.
+// The words of the program's arguments.
+use crate::trouble::{Trouble, Usage};
+use faults::{Fault, Layer};
 use orders::side::Side;
+use service::refusal::Refusal;
 use std::env;
 
-// What is asked: a file, a term and the number of an end list.
+// What is asked of a tree: its file, a term or a sheet, and the number of an end list.
 #[derive(Drop)]
 pub struct Question {
-    pub path: String,
-    pub term: String,
+    pub file: String,
+    pub subject: String,
     pub list: usize,
 }
 
 impl Question {
-    // The next three words, nothing where one is missing or the last is no number.
-    pub fn read(args: &mut env::Args) -> Option<Question> {
-        let path = args.next()?;
-        let term = args.next()?;
+    // The next three words; none may be missing, and the last is a number.
+    fn read(args: &mut env::Args) -> Option<Question> {
+        let file = args.next()?;
+        let subject = args.next()?;
         let list = args.next()?.as_str().parse::<usize>().ok()?;
-        Some(Question { path, term, list })
+        Some(Question {
+            file,
+            subject,
+            list,
+        })
     }
-}
 
-// What a job asks: a tree file, a sheet and the number of an end list.
-#[derive(Drop)]
-pub struct Job {
-    pub path: String,
-    pub sheet: String,
-    pub list: usize,
-}
+    // The same where no word follows.
+    fn alone(args: &mut env::Args) -> Option<Question> {
+        let question = Question::read(args)?;
+        args.next().is_none().then_some(question)
+    }
 
-impl Job {
-    // The next three words, nothing where one is missing, the last is no number or another follows.
-    pub fn read(args: &mut env::Args) -> Option<Job> {
-        let path = args.next()?;
-        let sheet = args.next()?;
-        let list = args.next()?.as_str().parse::<usize>().ok()?;
-        match args.next() {
-            Some(_) => None,
-            None => Some(Job { path, sheet, list }),
-        }
+    // The tree's refusal of the question.
+    pub fn refused<E: Into<Refusal>>(&self, why: E) -> Trouble<'_> {
+        Trouble::refused(self.file.as_str(), why)
+    }
+
+    // The refusal of a job: of its sheet, or of the tree.
+    pub fn refused_job(&self, fault: Fault) -> Trouble<'_> {
+        let what = match fault.layer {
+            Layer::Job => self.subject.as_str(),
+            _ => self.file.as_str(),
+        };
+        Trouble::refused(what, fault)
     }
 }
 
 // The side that a last word names, the low side where there is none; nothing where other words follow.
-pub fn side(args: &mut env::Args) -> Option<Side> {
+fn side(args: &mut env::Args) -> Option<Side> {
     let Some(word) = args.next() else {
         return Some(Side::Low);
     };
@@ -50,5 +56,46 @@ pub fn side(args: &mut env::Args) -> Option<Side> {
         ("low", None) => Some(Side::Low),
         ("high", None) => Some(Side::High),
         _ => None,
+    }
+}
+
+// What the program is told to do.
+#[derive(Drop)]
+pub enum Command {
+    // At least one file.
+    Check(String, env::Args),
+    Show(String),
+    LookUp(Question, Side),
+    Offer(Question),
+    Verdict(Question),
+    Job(Question),
+    Help,
+}
+
+impl Command {
+    // The command in the words behind the program's name.
+    pub fn read(mut args: env::Args) -> Result<Command, Usage> {
+        let name = args.next().ok_or(Usage::Unclear)?;
+        let command = match name.as_str() {
+            "check" => args.next().map(|first| Command::Check(first, args)),
+            "show" => Command::show(&mut args),
+            "lookup" => Command::look_up(&mut args),
+            "offer" => Question::alone(&mut args).map(Command::Offer),
+            "verdict" => Question::alone(&mut args).map(Command::Verdict),
+            "job" => Question::alone(&mut args).map(Command::Job),
+            "help" => Some(Command::Help),
+            _ => return Err(Usage::NoCommand(name)),
+        };
+        command.ok_or(Usage::Unclear)
+    }
+
+    fn show(args: &mut env::Args) -> Option<Command> {
+        let file = args.next()?;
+        args.next().is_none().then_some(Command::Show(file))
+    }
+
+    fn look_up(args: &mut env::Args) -> Option<Command> {
+        let question = Question::read(args)?;
+        Some(Command::LookUp(question, side(args)?))
     }
 }

@@ -1,29 +1,28 @@
 // What is printed of verdicts and of the jobs that sheets are.
-use crate::text::{Counted, Quoted};
+use crate::text::{Counted, Noun, Quoted};
 use index::Index;
 use jobs::job::JobCount;
-use jobs::judging::{LineOutcome, judge_line};
-use jobs::lines::first_line;
+use jobs::judging::judge_line;
+use jobs::lines::Lines;
 use jobs::verdict::{Cause, Standing, Verdict};
-use std::io;
+use std::{fmt, io};
 use terms::key::Term;
 use terms::marks::Marks;
 
-// A verdict in words.
-pub fn verdict_words(verdict: Verdict) -> &'static str {
-    match verdict {
-        Verdict::Absent => "absent",
-        Verdict::Offered(Standing::Preferred) => "offered, preferred",
-        Verdict::Offered(Standing::Plain) => "offered, plain",
-        Verdict::Withheld(Cause::Withdrawn) => "withheld, withdrawn",
-        Verdict::Withheld(Cause::Ban) => "withheld, ban",
-    }
-}
+// The verdict on a line, or that the line is no term's text.
+#[derive(Clone, Copy)]
+pub struct VerdictWords(pub Option<Verdict>);
 
-fn outcome_words(outcome: LineOutcome) -> &'static str {
-    match outcome {
-        LineOutcome::Unreadable => "unreadable",
-        LineOutcome::Judged(verdict) => verdict_words(verdict),
+impl fmt::Display for VerdictWords {
+    fn fmt<W: fmt::Write>(&self, f: &mut fmt::Formatter<W>) -> fmt::Result {
+        f.pad(match self.0 {
+            None => "unreadable",
+            Some(Verdict::Absent) => "absent",
+            Some(Verdict::Offered(Standing::Preferred)) => "offered, preferred",
+            Some(Verdict::Offered(Standing::Plain)) => "offered, plain",
+            Some(Verdict::Withheld(Cause::Withdrawn)) => "withheld, withdrawn",
+            Some(Verdict::Withheld(Cause::Ban)) => "withheld, ban",
+        })
     }
 }
 
@@ -35,33 +34,38 @@ pub fn print_lines(
     sheet: &[u8],
 ) -> io::Result<()> {
     rt.print("  line  verdict              term\n")?;
-    let mut number = 0usize;
-    let mut rest = sheet;
-    while let Some((line, behind)) = first_line(rest) {
-        number = number.saturating_add(1);
+    for (number, line) in (1usize..).zip(Lines::of(sheet)) {
         let term = Quoted(line);
         match judge_line(index, list, line) {
             Ok(outcome) => {
-                let words = outcome_words(outcome);
+                let words = VerdictWords(outcome);
                 println!(rt; "{number:>6}  {words:<19}  {term}")?;
             }
             Err(fault) => println!(rt; "{number:>6}  {fault}")?,
         }
-        rest = behind;
     }
     Ok(())
 }
 
-// Prints how many lines came to what.
-pub fn print_count(rt: &HostRuntime, count: &JobCount) -> io::Result<()> {
-    let lines = Counted::lines(count.lines);
-    let offered = count.offered;
-    let withheld = count.withheld;
-    let absent = count.absent;
-    let unreadable = count.unreadable;
-    let share = count.share;
-    println!(rt;
-        "{lines}: {offered} offered, {withheld} withheld, {absent} absent, {unreadable} unreadable"
-    )?;
-    println!(rt; "share of offered lines: {share} %")
+// How many lines came to what.
+#[derive(Clone, Copy)]
+pub struct CountWords(pub JobCount);
+
+impl fmt::Display for CountWords {
+    fn fmt<W: fmt::Write>(&self, f: &mut fmt::Formatter<W>) -> fmt::Result {
+        let lines = Counted(self.0.lines, Noun::Line);
+        let JobCount {
+            offered,
+            withheld,
+            absent,
+            unreadable,
+            share,
+            ..
+        } = self.0;
+        writeln!(
+            f,
+            "{lines}: {offered} offered, {withheld} withheld, {absent} absent, {unreadable} unreadable"
+        )?;
+        writeln!(f, "share of offered lines: {share} %")
+    }
 }

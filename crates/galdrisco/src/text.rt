@@ -2,53 +2,30 @@
 use std::fmt;
 use terms::marks::Marks;
 
+// A thing that is counted.
+#[derive(Clone, Copy)]
+pub enum Noun {
+    List,
+    Entry,
+    Line,
+    Comparison,
+}
+
 // A number of things, as "1 list" and "2 lists".
 #[derive(Clone, Copy)]
-pub struct Counted {
-    number: usize,
-    one: &'static str,
-    many: &'static str,
-}
-
-impl Counted {
-    pub fn lists(number: usize) -> Counted {
-        Counted {
-            number,
-            one: "list",
-            many: "lists",
-        }
-    }
-
-    pub fn entries(number: usize) -> Counted {
-        Counted {
-            number,
-            one: "entry",
-            many: "entries",
-        }
-    }
-
-    pub fn lines(number: usize) -> Counted {
-        Counted {
-            number,
-            one: "line",
-            many: "lines",
-        }
-    }
-
-    pub fn comparisons(number: usize) -> Counted {
-        Counted {
-            number,
-            one: "comparison",
-            many: "comparisons",
-        }
-    }
-}
+pub struct Counted(pub usize, pub Noun);
 
 impl fmt::Display for Counted {
     fn fmt<W: fmt::Write>(&self, f: &mut fmt::Formatter<W>) -> fmt::Result {
-        let number = self.number;
-        let noun = if number == 1 { self.one } else { self.many };
-        write!(f, "{number} {noun}")
+        let Counted(number, noun) = *self;
+        let (one, many) = match noun {
+            Noun::List => ("list", "lists"),
+            Noun::Entry => ("entry", "entries"),
+            Noun::Line => ("line", "lines"),
+            Noun::Comparison => ("comparison", "comparisons"),
+        };
+        let word = if number == 1 { one } else { many };
+        write!(f, "{number} {word}")
     }
 }
 
@@ -81,13 +58,13 @@ fn write_char<W: fmt::Write>(c: char, f: &mut fmt::Formatter<W>) -> fmt::Result 
     if plain && c != '"' && c != '\\' {
         return write!(f, "{c}");
     }
-    let code = c as u32;
+    let code = u32::from(c);
     write!(f, "\\u{{{code:x}}}")
 }
 
 fn write_byte<W: fmt::Write>(b: u8, f: &mut fmt::Formatter<W>) -> fmt::Result {
     if matches!(b, b' '..=b'~') && b != b'"' && b != b'\\' {
-        let c = b as char;
+        let c = char::from(b);
         return write!(f, "{c}");
     }
     write!(f, "\\x{b:02x}")
@@ -99,9 +76,9 @@ pub struct MarkWords(pub Marks);
 
 impl fmt::Display for MarkWords {
     fn fmt<W: fmt::Write>(&self, f: &mut fmt::Formatter<W>) -> fmt::Result {
-        for place in 0..32u32 {
+        for place in 0..u32::BITS {
             let bit = 1u32 << place;
-            if self.0.bits & bit == 0 {
+            if !self.0.has(bit) {
                 continue;
             }
             match bit {

@@ -4,6 +4,7 @@ use Rattle.std.proofs.lemmas.Bool.{lt-ltb, le-ltb}
 use Rattle.faults.specs.Refusals.{fault}
 use Rattle.faults.specs.declared.Fault.{Fault}
 use Rattle.faults.specs.declared.Reason.TheVariants.{NoSuchList, NoSuchPlace}
+use Rattle.orders.specs.declared.KeyOrder.{Ghosts}
 use Rattle.cascade.specs.declared.row.Row.{Row}
 use Rattle.cascade.specs.Trees.{KeyTree, keys_at, all_keys}
 use Rattle.layout.specs.KeyTrees.{key_tree}
@@ -23,7 +24,7 @@ use Rattle.index.proofs.Sounding.{tree_of}
 abbrev pub none : ListRun
 none = record { parent = 0; ordinal = 0; start = 0; length = 0; first = 0; count = 0 }
 
-module _ {K P : Type 0} (i : Index K P) (list : ℕ) where
+module _ {K P : Type 0} {g : Ghosts K} (i : Index K P g) (list : ℕ) where
   abbrev t : KeyTree K
   t = i.layout.tree
 

@@ -1,19 +1,18 @@
 -- Ranges of an index, from those of the walk over its memory. Assumes nothing.
-use Rattle.std.proofs.Common.{◌≡◌, ℕ, ◌+◌, ◌-◌, ◌*◌, ◌<◌, ◌≤◌, Bool, true, false, ◌&&◌, ltb, leb, ◌⊎◌, List, length, take, replicate, Some, None, Ok, Err, Decides, Option, Ordering, Less, Equal, Greater, sym, refl, ap, ◌∙◌, subst, inl, inr, lit≤}
+use Rattle.std.proofs.Common.{◌≡◌, ℕ, ◌+◌, ◌-◌, ◌*◌, ◌<◌, ◌≤◌, Bool, true, false, ◌&&◌, ltb, leb, List, length, take, replicate, Some, None, Ok, Err, Decides, Option, Ordering, sym, refl, ap, ◌∙◌, subst, lit≤}
 use Rattle.std.proofs.lemmas.List.{take_at}
-use Rattle.std.proofs.lemmas.Bool.{and_from, and_left, and_right, le-leb, lt-leb, lt-ltb, le-ltb}
 use Rattle.std.specs.Ordering.{is_le}
 use Rattle.faults.specs.Refusals.{fault}
 use Rattle.faults.specs.declared.Fault.{Fault}
 use Rattle.faults.specs.declared.Reason.TheVariants.{NotSieved, SlotLimits, KeyLimits}
+use Rattle.orders.specs.declared.KeyOrder.{Ghosts}
 use Rattle.orders.specs.Laws.{LawfulOrder}
 use Rattle.shelves.specs.Slots.{slot_count}
 use Rattle.cascade.proofs.Ranging.{range-within}
 use Rattle.cascade.specs.SlotTree.{SieveShaped}
-use Rattle.cascade.specs.Trees.{KeyTree, all_keys, augmented_lists}
+use Rattle.cascade.specs.Trees.{KeyTree}
 use Rattle.layout.specs.KeyTrees.{key_tree, all_in_order}
 use Rattle.plan.proofs.Asking.{or-stop, or-next}
-use Rattle.plan.specs.Laid.{Laid}
 use Rattle.plan.specs.Table.{Tabled}
 use Rattle.register.specs.Answers.{span, filled_up, range_read, Spans}
 use Rattle.register.specs.Limits.{most_spans}
@@ -21,7 +20,7 @@ use Rattle.register.specs.Questions.{ask, unless, sieve_shaped, range_fault}
 use Rattle.register.specs.Register.{ranged, range_answer}
 use Rattle.register.specs.declared.answers.Range.{Range}
 use Rattle.register.specs.declared.answers.Span.{Span}
-use Rattle.walking.specs.Ranged.{Rangeable, ranged_at, ranged_spans}
+use Rattle.walking.specs.Ranged.{ranged_at, ranged_spans}
 use Rattle.index.specs.Counts.{root_digits, RangeCounts}
 use Rattle.index.specs.Held.{machine_of}
 use Rattle.index.specs.Rectangles.{HoldRectangle}
@@ -31,23 +30,7 @@ use Rattle.index.proofs.Facts.{runs-out}
 use Rattle.index.proofs.Ranging.{ranges}
 use Rattle.index.proofs.Rectangles.{hold-rectangle}
 use Rattle.index.proofs.Sieving.{shaped-table, table-says}
-use Rattle.index.proofs.Sounding.{tree_of, laid_of}
-
-not-greater : (o : Ordering) → (o ≡ Greater → ⊥) → is_le o ≡ true
-not-greater Less h = refl
-not-greater Equal h = refl
-not-greater Greater h = absurd (h refl)
-
--- slots out of order, or past the last
-slots-off : (a b : ℕ) → (b < a) ⊎ ((a ≤ b) × (slot_count ≤ b)) → (leb a b && ltb b slot_count) ≡ false
-slots-off a b h =
-    elim h [
-      | inl l ↦ and_left (leb a b) (ltb b slot_count) (lt-leb a b l)
-      | inr l ↦ and_right (leb a b) (ltb b slot_count) (le-ltb b slot_count l.1)
-    ]
-
-slots-on : (a b : ℕ) → a ≤ b → b < slot_count → (leb a b && ltb b slot_count) ≡ true
-slots-on a b l m = and_from (leb a b) (ltb b slot_count) (le-leb a b l) (lt-ltb b slot_count m)
+use Rattle.index.proofs.Sounding.{tree_of}
 
 -- the questions before a range: the first "no" is the refusal
 module _ {K : Type 0} (order : K → K → Ordering) (u : KeyTree K) (a b : ℕ) (low high : K) where
@@ -58,18 +41,18 @@ module _ {K : Type 0} (order : K → K → Ordering) (u : KeyTree K) (a b : ℕ)
     is-sieved : ask (sieve_shaped u) (fault NotSieved 0 0) ≡ None
     is-sieved = ap (λ (x : Bool). ask x (fault NotSieved 0 0)) sieve
 
-    not-slots : (b < a) ⊎ ((a ≤ b) × (slot_count ≤ b)) → range_fault order u a b low high ≡ Some (fault SlotLimits a b)
-    not-slots l = or-next _ _ _ is-sieved (or-stop _ _ (fault SlotLimits a b) (ap (λ (x : Bool). ask x (fault SlotLimits a b)) (slots-off a b l)))
+    not-slots : (leb a b && ltb b slot_count) ≡ false → range_fault order u a b low high ≡ Some (fault SlotLimits a b)
+    not-slots e = or-next _ _ _ is-sieved (or-stop _ _ (fault SlotLimits a b) (ap (λ (x : Bool). ask x (fault SlotLimits a b)) e))
 
     -- what is left is whether low is not above high
-    keys-left : a ≤ b → b < slot_count → range_fault order u a b low high ≡ ask (is_le (order low high)) (fault KeyLimits 0 0)
-    keys-left up top = or-next _ _ _ is-sieved (or-next _ _ _ (ap (λ (x : Bool). ask x (fault SlotLimits a b)) (slots-on a b up top)) refl)
+    keys-left : (leb a b && ltb b slot_count) ≡ true → range_fault order u a b low high ≡ ask (is_le (order low high)) (fault KeyLimits 0 0)
+    keys-left e = or-next _ _ _ is-sieved (or-next _ _ _ (ap (λ (x : Bool). ask x (fault SlotLimits a b)) e) refl)
 
 -- the rows in use of a record
 used-rows : (ss : List Span) → take (length ss) (filled_up most_spans (span 0 0 0) ss) ≡ ss
 used-rows ss = take_at ss (replicate (most_spans - length ss) (span 0 0 0)) (length ss) refl
 
-module _ {K P : Type 0} (order : K → K → Ordering) (i : Index K P) (says : Bool) (told : Decides says (SieveTable i.table)) (a b : ℕ) (low high : K) where
+module _ {K P : Type 0} {g : Ghosts K} (order : K → K → Ordering) (i : Index K P g) (says : Bool) (told : Decides says (SieveTable i.table)) (a b : ℕ) (low high : K) where
   abbrev t : KeyTree K
   t = i.layout.tree
 
@@ -87,36 +70,23 @@ module _ {K P : Type 0} (order : K → K → Ordering) (i : Index K P) (says : B
     pub no-sieve : says ≡ false → Err (fault NotSieved 0 0) ≡ range_answer order neutral joined (machine_of i).register a b low high
     no-sieve e = refused (fault NotSieved 0 0) (not-sieved order (key_tree (machine_of i).register) a b low high (sym test-is ∙ e))
 
-    pub no-slots : says ≡ true → (b < a) ⊎ ((a ≤ b) × (slot_count ≤ b)) → Err (fault SlotLimits a b) ≡ range_answer order neutral joined (machine_of i).register a b low high
-    no-slots e l = refused (fault SlotLimits a b) (not-slots order (key_tree (machine_of i).register) a b low high (sym test-is ∙ e) l)
+    pub no-slots : says ≡ true → (leb a b && ltb b slot_count) ≡ false → Err (fault SlotLimits a b) ≡ range_answer order neutral joined (machine_of i).register a b low high
+    no-slots e off = refused (fault SlotLimits a b) (not-slots order (key_tree (machine_of i).register) a b low high (sym test-is ∙ e) off)
 
-    pub no_keys : says ≡ true → a ≤ b → b < slot_count → order low high ≡ Greater → Err (fault KeyLimits 0 0) ≡ range_answer order neutral joined (machine_of i).register a b low high
-    no_keys e up top g =
+    pub no_keys : says ≡ true → (leb a b && ltb b slot_count) ≡ true → is_le (order low high) ≡ false → Err (fault KeyLimits 0 0) ≡ range_answer order neutral joined (machine_of i).register a b low high
+    no_keys e on down =
         refused (fault KeyLimits 0 0)
-        (keys-left order (key_tree (machine_of i).register) a b low high (sym test-is ∙ e) up top
-        ∙ ap (λ (o : Ordering). ask (is_le o) (fault KeyLimits 0 0)) g)
+        (keys-left order (key_tree (machine_of i).register) a b low high (sym test-is ∙ e) on
+        ∙ ap (λ (o : Bool). ask o (fault KeyLimits 0 0)) down)
 
-  module _ (yes : says ≡ true) (up : a ≤ b) (top : b < slot_count) (least : order low high ≡ Greater → ⊥) (known : i.layout.augmented ≡ augmented_lists order t) where
-    shape : SieveShaped t
+  module _ (yes : says ≡ true) where
+    pub shape : SieveShaped t
     shape = shaped-table t i.layout.augmented i.table tabled (told.0 yes)
 
-    upward : is_le (order low high) ≡ true
-    upward = not-greater (order low high) least
-
-    abbrev laid : Laid order t i.table i.memory.keys.now i.memory.rows.now
-    laid = laid_of i order known
-
-    pub rangeable : Rangeable order i.table i.memory.keys.now i.memory.rows.now (length i.memory.payloads.now) a b low high
-    rangeable = record { tree = t; laid = laid; sieve = shape; held = i.loaded; forward = up; few = top; upward = upward }
-
-    module _ (laws : LawfulOrder order) (neutral : P) (joined : P → P → P) (r : Range P)
-        (f : (u : KeyTree K) → Laid order u i.table i.memory.keys.now i.memory.rows.now → SieveShaped u → all_keys u ≤ length i.memory.payloads.now → r ≡ ranged_at order neutral joined u i.memory.payloads.now a b low high) where
-      is : r ≡ ranged_at order neutral joined t i.memory.payloads.now a b low high
-      is = f t laid shape i.loaded
-
+    module _ (on : (leb a b && ltb b slot_count) ≡ true) (up : a ≤ b) (top : b < slot_count) (upward : is_le (order low high) ≡ true) (laws : LawfulOrder order) (neutral : P) (joined : P → P → P) (r : Range P) (is : r ≡ ranged_at order neutral joined t i.memory.payloads.now a b low high) where
       granted : range_fault order (key_tree (machine_of i).register) a b low high ≡ None
       granted =
-          keys-left order (key_tree (machine_of i).register) a b low high (sym test-is ∙ yes) up top
+          keys-left order (key_tree (machine_of i).register) a b low high (sym test-is ∙ yes) on
           ∙ ap (λ (x : Bool). ask x (fault KeyLimits 0 0)) upward
 
       pub range-answer : Ok (range_read r) ≡ range_answer order neutral joined (machine_of i).register a b low high

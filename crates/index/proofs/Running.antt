@@ -1,16 +1,15 @@
 -- The law over runs, call by call. Assumes nothing.
-use Rattle.std.proofs.Common.{◌≡◌, ℕ, zero, suc, ◌+◌, ◌<◌, ◌≤◌, min, List, [], ◌∷◌, ◌++◌, length, get_or, take, drop, set, Some, Ordering, sym, refl, ap, ◌∙◌, subst, ap₂, inl, inr, arith, length-set, drop-drop}
+use Rattle.std.proofs.Common.{◌≡◌, ℕ, zero, suc, ◌+◌, ◌<◌, ◌≤◌, min, List, [], ◌∷◌, ◌++◌, length, get_or, take, drop, set, Some, Ok, Ordering, sym, refl, ap, ◌∙◌, subst, ap₂, inl, inr, arith, length-set, drop-drop}
 use Rattle.std.proofs.lemmas.List.{take_more, drop-set-lt}
 use Rattle.std.proofs.lemmas.Bool.{cases_lt}
 use Rattle.std.specs.List.{slice_get}
 use Rattle.shelves.specs.Meaning.{Branch}
 use Rattle.register.specs.Questions.{Sizes}
 use Rattle.register.specs.Register.{Register}
-use Rattle.index.specs.Calls.{outcome_read, answer, next, fed, after, after_all, Counted}
+use Rattle.index.specs.Calls.{Outcome, outcome_read, answer, next, fed, after, after_all, Counted}
 use Rattle.index.specs.Law.{register_after, machine_after, carried_out, Came, Law}
 use Rattle.index.specs.Machine.{Machine, Sound, sizes_of}
-use Rattle.index.specs.declared.requests.Outcome.{Outcome}
-use Rattle.index.specs.declared.requests.Outcome.TheVariants.{Found, Offered, Ranged}
+use Rattle.index.specs.declared.requests.Granted.TheVariants.{Found, Offered, Ranged}
 use Rattle.index.specs.declared.requests.Request.{Request}
 use Rattle.index.specs.declared.requests.Request.TheVariants.{LookUp, Offer as OfferOf, Range as RangeOver}
 use Rattle.index.proofs.Nexts.{sizes-after, register-after, after_more, fed-more}
@@ -140,8 +139,8 @@ module _ {S K P : Type 0} (order : K → K → Ordering) (neutral : P) (joined :
         registers = λ k h. (inv.moments k (below k h)).0;
         sound = λ k h. (inv.moments k (below k h)).1;
         left = inv.here ∙ ap mach n;
-        lookups = λ k w q side l came. (told k (LookUp w q side) (Found l) came).1;
-        offers = λ k w q o came. (told k (OfferOf w q) (Offered o) came).1;
-        ranges = λ k a b low high r came. (told k (RangeOver a b low high) (Ranged r) came).1.0;
-        rectangles = λ k a b low high r came. (told k (RangeOver a b low high) (Ranged r) came).1.1;
+        lookups = λ k w q side l came. (told k (LookUp w q side) (Ok (Found l)) came).1;
+        offers = λ k w q o came. (told k (OfferOf w q) (Ok (Offered o)) came).1;
+        ranges = λ k a b low high r came. (told k (RangeOver a b low high) (Ok (Ranged r)) came).1.0;
+        rectangles = λ k a b low high r came. (told k (RangeOver a b low high) (Ok (Ranged r)) came).1.1;
       }

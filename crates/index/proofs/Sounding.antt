@@ -1,5 +1,6 @@
 -- What the facts of an index say of its machine. Assumes nothing.
 use Rattle.std.proofs.Common.{◌≡◌, ◌+◌, List, length, take, sum_by, Ordering, sym, ap, ◌∙◌, subst}
+use Rattle.orders.specs.declared.KeyOrder.{Ghosts}
 use Rattle.cascade.proofs.Spacing.{space}
 use Rattle.cascade.specs.Trees.{KeyTree, Tagged, all_keys, all_augmented, augmented_lists}
 use Rattle.layout.specs.KeyTrees.{key_tree}
@@ -13,7 +14,7 @@ use Rattle.index.specs.declared.Index.{Index}
 use Rattle.index.proofs.Dressing.{tree-dressed, payloads-dressed}
 use Rattle.index.proofs.Facts.{runs-out, rows_out}
 
-module _ {K P : Type 0} (i : Index K P) where
+module _ {K P : Type 0} {g : Ghosts K} (i : Index K P g) where
   pub shape_of : Shaped i.layout.tree
   shape_of = record { lists = i.few; smaller = i.smaller; shallow = i.shallow; narrow = i.narrow; entries = i.small }
 

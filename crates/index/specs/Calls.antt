@@ -14,10 +14,14 @@ use Rattle.register.specs.declared.answers.Range.{Range}
 use Rattle.index.specs.Counts.{LookupCounts, OfferCounts, RangeCounts}
 use Rattle.index.specs.Machine.{Machine, granted, cleared, after_build, after_amend}
 use Rattle.index.specs.Rectangles.{HoldRectangle}
-use Rattle.index.specs.declared.requests.Outcome.{Outcome}
-use Rattle.index.specs.declared.requests.Outcome.TheVariants.{Built, Cleared, Amended, Found, Offered, Ranged, Refused}
+use Rattle.index.specs.declared.requests.Granted.{Granted}
+use Rattle.index.specs.declared.requests.Granted.TheVariants.{Built, Cleared, Amended, Found, Offered, Ranged}
 use Rattle.index.specs.declared.requests.Request.{Request}
 use Rattle.index.specs.declared.requests.Request.TheVariants.{Build, Clear, Amend, LookUp, Offer as OfferOf, Range as RangeOver}
+
+-- what a call came to: granted, with its answer, or refused
+abbrev pub Outcome : Type 0 → Type 0
+Outcome P = Result (Granted P) Fault
 
 -- an answer of the plain register, which compares nothing
 pub data Answer (P : Type 0) : Type 0 where
@@ -35,13 +39,13 @@ module _ {P : Type 0} where
 
   -- an outcome, comparisons aside
   abbrev pub outcome_read : Outcome P → Answer P
-  outcome_read Built = built
-  outcome_read Cleared = no_lists
-  outcome_read Amended = joined_to
-  outcome_read (Found l) = places (lookup_read l)
-  outcome_read (Offered o) = entries (offer_read o)
-  outcome_read (Ranged r) = entries (range_read r)
-  outcome_read (Refused f) = refused f
+  outcome_read (Ok Built) = built
+  outcome_read (Ok Cleared) = no_lists
+  outcome_read (Ok Amended) = joined_to
+  outcome_read (Ok (Found l)) = places (lookup_read l)
+  outcome_read (Ok (Offered o)) = entries (offer_read o)
+  outcome_read (Ok (Ranged r)) = entries (range_read r)
+  outcome_read (Err f) = refused f
 
 module _ {S K P : Type 0} (order : K → K → Ordering) (neutral : P) (joined : P → P → P) (meaning : S → List (Branch K P)) (sizes : Sizes) where
   -- the plain register's answer or refusal; a shelf is fed by its meaning
@@ -84,31 +88,31 @@ module _ {S K P : Type 0} (order : K → K → Ordering) (joined : P → P → P
 -- of a granted lookup, offer or range
 module _ {P : Type 0} where
   abbrev pub WhenFound : (Lookup → Type 0) → Outcome P → Type 0
-  WhenFound f (Found l) = f l
-  WhenFound f Built = Unit
-  WhenFound f Cleared = Unit
-  WhenFound f Amended = Unit
-  WhenFound f (Offered o) = Unit
-  WhenFound f (Ranged r) = Unit
-  WhenFound f (Refused e) = Unit
+  WhenFound f (Ok (Found l)) = f l
+  WhenFound f (Ok Built) = Unit
+  WhenFound f (Ok Cleared) = Unit
+  WhenFound f (Ok Amended) = Unit
+  WhenFound f (Ok (Offered o)) = Unit
+  WhenFound f (Ok (Ranged r)) = Unit
+  WhenFound f (Err e) = Unit
 
   abbrev pub WhenOffered : (Offer P → Type 0) → Outcome P → Type 0
-  WhenOffered f (Offered o) = f o
-  WhenOffered f Built = Unit
-  WhenOffered f Cleared = Unit
-  WhenOffered f Amended = Unit
-  WhenOffered f (Found l) = Unit
-  WhenOffered f (Ranged r) = Unit
-  WhenOffered f (Refused e) = Unit
+  WhenOffered f (Ok (Offered o)) = f o
+  WhenOffered f (Ok Built) = Unit
+  WhenOffered f (Ok Cleared) = Unit
+  WhenOffered f (Ok Amended) = Unit
+  WhenOffered f (Ok (Found l)) = Unit
+  WhenOffered f (Ok (Ranged r)) = Unit
+  WhenOffered f (Err e) = Unit
 
   abbrev pub WhenRanged : (Range P → Type 0) → Outcome P → Type 0
-  WhenRanged f (Ranged r) = f r
-  WhenRanged f Built = Unit
-  WhenRanged f Cleared = Unit
-  WhenRanged f Amended = Unit
-  WhenRanged f (Found l) = Unit
-  WhenRanged f (Offered o) = Unit
-  WhenRanged f (Refused e) = Unit
+  WhenRanged f (Ok (Ranged r)) = f r
+  WhenRanged f (Ok Built) = Unit
+  WhenRanged f (Ok Cleared) = Unit
+  WhenRanged f (Ok Amended) = Unit
+  WhenRanged f (Ok (Found l)) = Unit
+  WhenRanged f (Ok (Offered o)) = Unit
+  WhenRanged f (Err e) = Unit
 
 -- the comparisons that an outcome reports are those that its call's searches count, within their bound, and the spans of a
 -- range hold its rectangle

@@ -1,5 +1,6 @@
 -- The machine that an index stands for.
 use Rattle.std.specs.Prelude.{List, [], ◌∷◌, length, drop}
+use Rattle.orders.specs.declared.KeyOrder.{Ghosts}
 use Rattle.orders.specs.declared.entry.Entry.{Entry}
 use Rattle.shelves.specs.Meaning.{Branch}
 use Rattle.cascade.specs.Trees.{KeyTree}
@@ -18,7 +19,7 @@ module _ {K P : Type 0} where
   dressed [] ps = []
   dressed (b ∷ t) ps = record { parent = b.0; entries = paired b.1 ps } ∷ dressed t (drop (length b.1) ps)
 
-  abbrev pub machine_of : Index K P → Machine K P
+  abbrev pub machine_of : {g : Ghosts K} → Index K P g → Machine K P
   machine_of i = record {
     register = dressed i.layout.tree i.memory.payloads.now;
     keys = i.memory.keys.now;

@@ -1,5 +1,5 @@
 -- The law of an index over every sequence of calls.
-use Rattle.std.specs.Prelude.{◌≡◌, ℕ, ◌<◌, ◌≤◌, min, List, length, take, drop, Some}
+use Rattle.std.specs.Prelude.{◌≡◌, ℕ, ◌<◌, ◌≤◌, min, List, length, take, drop, Some, Ok}
 use Rattle.std.specs.declared.cmp.Ordering.{Ordering}
 use Rattle.std.specs.List.{slice_get}
 use Rattle.orders.specs.declared.side.Side.{Side}
@@ -9,12 +9,11 @@ use Rattle.register.specs.Register.{Register}
 use Rattle.register.specs.declared.answers.Lookup.{Lookup}
 use Rattle.register.specs.declared.answers.Offer.{Offer}
 use Rattle.register.specs.declared.answers.Range.{Range}
-use Rattle.index.specs.Calls.{outcome_read, answer, fed, after_all}
+use Rattle.index.specs.Calls.{Outcome, outcome_read, answer, fed, after_all}
 use Rattle.index.specs.Counts.{LookupCounts, OfferCounts, RangeCounts}
 use Rattle.index.specs.Machine.{Machine, Sound, sizes_of}
 use Rattle.index.specs.Rectangles.{HoldRectangle}
-use Rattle.index.specs.declared.requests.Outcome.{Outcome}
-use Rattle.index.specs.declared.requests.Outcome.TheVariants.{Found, Offered, Ranged}
+use Rattle.index.specs.declared.requests.Granted.TheVariants.{Found, Offered, Ranged}
 use Rattle.index.specs.declared.requests.Request.{Request}
 use Rattle.index.specs.declared.requests.Request.TheVariants.{LookUp, Offer as OfferOf, Range as RangeOver}
 
@@ -54,12 +53,12 @@ module _ {S K P : Type 0} (order : K → K → Ordering) (neutral : P) (joined :
     -- the whole memories, also behind the part in use, are as the calls left them
     pub left : last ≡ machine_after (carried_out was)
     -- the comparisons that granted lookups, offers and ranges report are those that their searches count, and bounded
-    pub lookups : (k w : ℕ) (q : K) (side : Side) (l : Lookup) → Came outcomes k (LookUp w q side) (Found l)
+    pub lookups : (k w : ℕ) (q : K) (side : Side) (l : Lookup) → Came outcomes k (LookUp w q side) (Ok (Found l))
         → LookupCounts order (key_tree (register_after k)) w side q l.comparisons
-    pub offers : (k w : ℕ) (q : K) (o : Offer P) → Came outcomes k (OfferOf w q) (Offered o)
+    pub offers : (k w : ℕ) (q : K) (o : Offer P) → Came outcomes k (OfferOf w q) (Ok (Offered o))
         → OfferCounts order (key_tree (register_after k)) w q o.comparisons
-    pub ranges : (k a b : ℕ) (low high : K) (r : Range P) → Came outcomes k (RangeOver a b low high) (Ranged r)
+    pub ranges : (k a b : ℕ) (low high : K) (r : Range P) → Came outcomes k (RangeOver a b low high) (Ok (Ranged r))
         → RangeCounts order (key_tree (register_after k)) a b low high r.comparisons
     -- the spans of a granted range hold each point of its rectangle once, and no other point
-    pub rectangles : (k a b : ℕ) (low high : K) (r : Range P) → Came outcomes k (RangeOver a b low high) (Ranged r)
+    pub rectangles : (k a b : ℕ) (low high : K) (r : Range P) → Came outcomes k (RangeOver a b low high) (Ok (Ranged r))
         → HoldRectangle order (register_after k) a b low high (take r.used r.spans)

@@ -13,15 +13,14 @@ use crate::sieve::is_sieve;
 use crate::{Index, Memory};
 use cascade::row::Row;
 use faults::{Fault, Reason};
-use layout::{empty, known, of_shelf};
+use layout::{empty, of_shelf};
 use orders::side::Side;
 use orders::{KeyOrder, Payload};
 use plan::plan;
 use plan::table::ListTable;
 use register::answers::{Lookup, Offer, Range};
 use shelves::Shelf;
-use shelves::slots::SLOT_COUNT;
-use std::cmp::Ordering;
+use walking::bounds::{KeyRange, SlotRange};
 use walking::walk::Cascade;
 
 impl<'m, K: KeyOrder, P: Payload> Index<'m, K, P> {
@@ -81,6 +80,20 @@ impl<'m, K: KeyOrder, P: Payload> Index<'m, K, P> {
         Ok(())
     }
 
+    // What its walks read.
+    fn cascade(&self) -> Cascade<'_, K, P>
+        ensures tree { result.layout.now.tree ≡ self.now.layout.tree }
+        ensures payloads { result.payloads.now ≡ self.now.memory.payloads.now }
+    {
+        Cascade {
+            table: &self.table,
+            keys: &self.memory.keys[..],
+            rows: &self.memory.rows[..],
+            payloads: &self.memory.payloads[..],
+            layout: &self.layout,
+        }
+    }
+
     // Where a key stands in each list from the root to an end list, or the refusal: no such list.
     pub fn look_up(&self, list: usize, key: &K, side: Side) -> Result<Lookup, Fault>
         ensures answer { map_ok lookup_read result ≡ look_up_answer K.order (machine_of self.now).register list side key.now }
@@ -89,13 +102,7 @@ impl<'m, K: KeyOrder, P: Payload> Index<'m, K, P> {
         if list >= self.table.len {
             return Err(Fault::new(Reason::NoSuchList, list, 0));
         }
-        known(&self.layout);
-        let cascade = Cascade {
-            table: &self.table,
-            keys: &self.memory.keys[..],
-            rows: &self.memory.rows[..],
-        };
-        Ok(cascade.look_up(list, key, side))
+        Ok(self.cascade().look_up(list, key, side))
     }
 
     // All entries from the root to an end list whose key is the same as the given one, or the refusal: no such list.
@@ -106,13 +113,7 @@ impl<'m, K: KeyOrder, P: Payload> Index<'m, K, P> {
         if list >= self.table.len {
             return Err(Fault::new(Reason::NoSuchList, list, 0));
         }
-        known(&self.layout);
-        let cascade = Cascade {
-            table: &self.table,
-            keys: &self.memory.keys[..],
-            rows: &self.memory.rows[..],
-        };
-        Ok(cascade.offer(&self.memory.payloads[..], list, key))
+        Ok(self.cascade().offer(list, key))
     }
 
     // A range over the slots a to b and the keys low to high, or the refusal: not the sieve's lists, then slots out of
@@ -125,25 +126,17 @@ impl<'m, K: KeyOrder, P: Payload> Index<'m, K, P> {
         if !is_sieve(&self.table) {
             return Err(Fault::new(Reason::NotSieved, 0, 0));
         }
-        if a > b || b >= SLOT_COUNT {
+        let Some(slots) = SlotRange::new(a, b) else {
             return Err(Fault::new(Reason::SlotLimits, a, b));
-        }
-        if let Ordering::Greater = low.compare(high) {
-            return Err(Fault::new(Reason::KeyLimits, 0, 0));
-        }
-        known(&self.layout);
-        let cascade = Cascade {
-            table: &self.table,
-            keys: &self.memory.keys[..],
-            rows: &self.memory.rows[..],
         };
-        Ok(cascade.range(&self.memory.payloads[..], a, b, low, high))
+        let Some(keys) = KeyRange::new(low, high) else {
+            return Err(Fault::new(Reason::KeyLimits, 0, 0));
+        };
+        Ok(self.cascade().range(slots, &keys))
     }
 
     // What holds of every index.
     pub fn sound(&self)
         ensures { Sound K.order (machine_of self.now) }
-    {
-        known(&self.layout);
-    }
+    {}
 }

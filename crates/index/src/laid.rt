@@ -10,7 +10,6 @@ use laying::lay_down;
 use orders::{KeyOrder, Payload};
 use plan::table::ListTable;
 use shelves::Shelf;
-use std::mem;
 
 impl<'m, K: KeyOrder, P: Payload> Memory<'m, K, P> {
     // Lays the lists of a shelf down from the starts of the memories. What lies behind stays.
@@ -20,13 +19,6 @@ impl<'m, K: KeyOrder, P: Payload> Memory<'m, K, P> {
         ensures rows { self.new.rows.now ≡ rows_laid (augmented_lists K.order (key_tree (S.meaning shelf.now))) ++ drop (all_augmented K.order (key_tree (S.meaning shelf.now)) + length (key_tree (S.meaning shelf.now))) self.old.rows.now }
         ensures payloads { self.new.payloads.now ≡ payloads_laid (S.meaning shelf.now) ++ drop (all_keys (key_tree (S.meaning shelf.now))) self.old.payloads.now }
     {
-        // The slices are taken out and put back: two fields behind one reference cannot be lent at the same time.
-        let keys = mem::replace(&mut self.keys, &mut []);
-        let rows = mem::replace(&mut self.rows, &mut []);
-        let payloads = mem::replace(&mut self.payloads, &mut []);
-        lay_down(shelf, table, keys, rows, payloads);
-        self.keys = keys;
-        self.rows = rows;
-        self.payloads = payloads;
+        lay_down(shelf, table, self.keys, self.rows, self.payloads);
     }
 }

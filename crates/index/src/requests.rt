@@ -31,14 +31,16 @@ pub enum Request<'s, S: Shelf> {
     },
 }
 
-// What a call came to: it was granted, with its answer, or it was refused.
-#[derive(Clone, Copy)]
-pub enum Outcome<P> {
+// What a granted call answers.
+#[derive(Clone, Copy, PartialEq, Eq, Debug)]
+pub enum Granted<P> {
     Built,
     Cleared,
     Amended,
     Found(Lookup),
     Offered(Offer<P>),
     Ranged(Range<P>),
-    Refused(Fault),
 }
+
+// What a call came to: it was granted, with its answer, or it was refused.
+pub type Outcome<P> = Result<Granted<P>, Fault>;

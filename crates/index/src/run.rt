@@ -6,7 +6,7 @@ ghost use Rattle.index.specs.Calls.{answer, after, Counted, outcome_read};
 ghost use Rattle.index.specs.Law.{Law};
 
 use crate::Index;
-use crate::requests::{Outcome, Request};
+use crate::requests::{Granted, Outcome, Request};
 use cascade::row::Row;
 use orders::{KeyOrder, Payload};
 use shelves::Shelf;
@@ -27,30 +27,25 @@ impl<'m, K: KeyOrder, P: Payload> Index<'m, K, P> {
         ensures after { machine_of self.new ≡ after K.order P.joined S.meaning (machine_of self.old) request.now }
     {
         match request {
-            Request::Build(shelf) => match self.build(*shelf) {
-                Ok(_) => Outcome::Built,
-                Err(fault) => Outcome::Refused(fault),
-            },
+            Request::Build(shelf) => {
+                self.build(*shelf)?;
+                Ok(Granted::Built)
+            }
             Request::Clear => {
                 self.clear();
-                Outcome::Cleared
+                Ok(Granted::Cleared)
             }
-            Request::Amend { list, place, by } => match self.amend(*list, *place, *by) {
-                Ok(_) => Outcome::Amended,
-                Err(fault) => Outcome::Refused(fault),
-            },
-            Request::LookUp { list, key, side } => match self.look_up(*list, key, *side) {
-                Ok(lookup) => Outcome::Found(lookup),
-                Err(fault) => Outcome::Refused(fault),
-            },
-            Request::Offer { list, key } => match self.offer(*list, key) {
-                Ok(offer) => Outcome::Offered(offer),
-                Err(fault) => Outcome::Refused(fault),
-            },
-            Request::Range { a, b, low, high } => match self.range(*a, *b, low, high) {
-                Ok(range) => Outcome::Ranged(range),
-                Err(fault) => Outcome::Refused(fault),
-            },
+            Request::Amend { list, place, by } => {
+                self.amend(*list, *place, *by)?;
+                Ok(Granted::Amended)
+            }
+            Request::LookUp { list, key, side } => {
+                Ok(Granted::Found(self.look_up(*list, key, *side)?))
+            }
+            Request::Offer { list, key } => Ok(Granted::Offered(self.offer(*list, key)?)),
+            Request::Range { a, b, low, high } => {
+                Ok(Granted::Ranged(self.range(*a, *b, low, high)?))
+            }
         }
     }
 
@@ -66,8 +61,8 @@ impl<'m, K: KeyOrder, P: Payload> Index<'m, K, P> {
     {
         let count = requests.len().min(outcomes.len());
         self.sound();
-        for i in 0..count {
-            let outcome = self.carry_out(&requests[i]);
+        for (i, request) in requests[..count].iter().enumerate() {
+            let outcome = self.carry_out(request);
             self.sound();
             put(outcomes, i, outcome);
         }

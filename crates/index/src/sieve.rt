@@ -3,7 +3,7 @@ ghost use Rattle.std.specs.Prelude.{Decides};
 ghost use Rattle.index.specs.Sieve.{SieveTable};
 
 use plan::table::ListTable;
-use shelves::slots::SIEVE_LISTS;
+use shelves::slots::{SIEVE_LISTS, parent_of};
 
 // Whether there are as many lists as the sieve has, with its parents.
 pub(crate) fn is_sieve(table: &ListTable) -> bool
@@ -12,8 +12,8 @@ pub(crate) fn is_sieve(table: &ListTable) -> bool
     if table.len != SIEVE_LISTS {
         return false;
     }
-    for list in 1..SIEVE_LISTS {
-        if table.runs[list].parent != (list - 1) / 2 {
+    for (list, run) in table.lists().iter().enumerate() {
+        if list > 0 && run.parent != parent_of(list) {
             return false;
         }
     }

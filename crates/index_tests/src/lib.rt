@@ -13,22 +13,14 @@ mod tests {
     use index::Index;
     use orders::entry::Entry;
     use orders::side::Side;
+    use samples::{LISTS, day};
     use shelves::rows::ListRow;
     use shelves::stored::Stored;
     use std::test::Fail;
 
-    const NO_KEY: DatedKey = DatedKey { day: 0, serial: 0 };
-
-    const NO_ROW: Row = Row {
-        own: 0,
-        children: [0; 4],
-    };
-
+    // A letter's code as a day.
     fn letter(code: u8) -> DatedKey {
-        DatedKey {
-            day: code as u32,
-            serial: 0,
-        }
+        day(u32::from(code))
     }
 
     fn entry(code: u8) -> Entry<DatedKey, Words> {
@@ -60,21 +52,6 @@ mod tests {
         ]
     }
 
-    const ROWS: [ListRow; 3] = [
-        ListRow {
-            parent: 0,
-            count: 3,
-        },
-        ListRow {
-            parent: 0,
-            count: 8,
-        },
-        ListRow {
-            parent: 1,
-            count: 5,
-        },
-    ];
-
     // The places of three stops.
     fn places(index: &Index<DatedKey, Words>, code: u8, side: Side) -> Result<[usize; 4], Fault> {
         let found = index.look_up(2, &letter(code), side)?;
@@ -89,11 +66,11 @@ mod tests {
     #[test]
     fn small_tree(rt: HostRuntime) -> Result<(), Fail> {
         let entries = entries();
-        let mut keys = [NO_KEY; 19];
-        let mut rows = [NO_ROW; 22];
+        let mut keys = [day(0); 19];
+        let mut rows = [Row::default(); 22];
         let mut payloads = [Words { number: 0 }; 16];
         let mut index = Index::set_up(&mut keys, &mut rows, &mut payloads);
-        index.build(&Stored::new(&ROWS, &entries))?;
+        index.build(&Stored::new(&LISTS, &entries))?;
         assert_eq!(rt; places(&index, b'd', Side::Low)?, [1, 2, 1, 8]);
         assert_eq!(rt; places(&index, b'd', Side::High)?, [2, 3, 3, 8]);
         assert_eq!(rt; places(&index, b'm', Side::Low)?, [3, 7, 3, 9]);
@@ -108,10 +85,10 @@ mod tests {
     // The place of d in the root after a build that memory is too short for, and that refusal.
     fn refused_build() -> Result<(usize, Result<(), Fault>), Fault> {
         let entries = entries();
-        let small = Stored::new(&ROWS[0..1], &entries);
-        let large = Stored::new(&ROWS, &entries);
-        let mut keys = [NO_KEY; 18];
-        let mut rows = [NO_ROW; 22];
+        let small = Stored::new(&LISTS[0..1], &entries);
+        let large = Stored::new(&LISTS, &entries);
+        let mut keys = [day(0); 18];
+        let mut rows = [Row::default(); 22];
         let mut payloads = [Words { number: 0 }; 16];
         let mut index = Index::set_up(&mut keys, &mut rows, &mut payloads);
         index.build(&small)?;
@@ -131,13 +108,10 @@ mod tests {
 
     // Lists without entries: list v below list (v - 1) / `width`.
     fn bare(width: usize) -> [ListRow; 129] {
-        let mut rows = [ListRow {
-            parent: 0,
-            count: 0,
-        }; 129];
+        let mut rows = [ListRow::default(); 129];
         if width > 0 {
-            for v in 1..129 {
-                rows[v].parent = (v - 1) / width;
+            for (v, row) in rows.iter_mut().enumerate() {
+                row.parent = v.saturating_sub(1) / width;
             }
         }
         rows
@@ -146,8 +120,8 @@ mod tests {
     fn build_bare(width: usize, lists: usize) -> Result<(), Fault> {
         let table = bare(width);
         let entries = entries();
-        let mut keys = [NO_KEY; 1];
-        let mut rows = [NO_ROW; 128];
+        let mut keys = [day(0); 1];
+        let mut rows = [Row::default(); 128];
         let mut payloads = [Words { number: 0 }; 1];
         let mut index = Index::set_up(&mut keys, &mut rows, &mut payloads);
         if lists > 129 {

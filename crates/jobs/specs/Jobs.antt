@@ -1,5 +1,6 @@
 -- Job counts: what becomes of the lines of a sheet at an end list, and how many lines come to what.
-use Rattle.std.specs.Prelude.{◌≡◌, ℕ, ◌+◌, ◌*◌, ◌/◌, Bool, true, false, cond, List, [], ◌∷◌, length, Some, None, Ok, Err, count_by, Option, Result, ◌==◌, nat_le}
+use Rattle.std.specs.List.{AllZip}
+use Rattle.std.specs.Prelude.{◌≡◌, ℕ, ◌+◌, ◌*◌, ◌/◌, Bool, true, false, cond, List, length, Some, None, Ok, Err, count_by, Option, Result, ◌==◌, nat_le}
 use Rattle.faults.specs.Refusals.{fault}
 use Rattle.faults.specs.declared.Fault.{Fault}
 use Rattle.faults.specs.declared.Reason.TheVariants.{SheetTooLong}
@@ -12,8 +13,6 @@ use Rattle.register.specs.Register.{Register}
 use Rattle.jobs.specs.Sheets.{lines_of}
 use Rattle.jobs.specs.Verdicts.{verdict_answer}
 use Rattle.jobs.specs.declared.job.JobCount.{JobCount}
-use Rattle.jobs.specs.declared.judging.LineOutcome.{LineOutcome}
-use Rattle.jobs.specs.declared.judging.LineOutcome.TheVariants.{Unreadable, Judged}
 use Rattle.jobs.specs.declared.verdict.Verdict.{Verdict}
 use Rattle.jobs.specs.declared.verdict.Verdict.TheVariants.{Absent, Offered, Withheld}
 
@@ -22,41 +21,34 @@ abbrev pub longest_sheet : ℕ
 longest_sheet = 65535
 
 -- what a line comes to
-abbrev pub is_unreadable : LineOutcome → Bool
-is_unreadable Unreadable = true
-is_unreadable (Judged v) = false
+abbrev pub is_unreadable : Option Verdict → Bool
+is_unreadable None = true
+is_unreadable (Some v) = false
 
-abbrev pub is_absent : LineOutcome → Bool
-is_absent Unreadable = false
-is_absent (Judged Absent) = true
-is_absent (Judged (Offered s)) = false
-is_absent (Judged (Withheld c)) = false
+abbrev pub is_absent : Option Verdict → Bool
+is_absent None = false
+is_absent (Some Absent) = true
+is_absent (Some (Offered s)) = false
+is_absent (Some (Withheld c)) = false
 
-abbrev pub is_offered : LineOutcome → Bool
-is_offered Unreadable = false
-is_offered (Judged Absent) = false
-is_offered (Judged (Offered s)) = true
-is_offered (Judged (Withheld c)) = false
+abbrev pub is_offered : Option Verdict → Bool
+is_offered None = false
+is_offered (Some Absent) = false
+is_offered (Some (Offered s)) = true
+is_offered (Some (Withheld c)) = false
 
-abbrev pub is_withheld : LineOutcome → Bool
-is_withheld Unreadable = false
-is_withheld (Judged Absent) = false
-is_withheld (Judged (Offered s)) = false
-is_withheld (Judged (Withheld c)) = true
+abbrev pub is_withheld : Option Verdict → Bool
+is_withheld None = false
+is_withheld (Some Absent) = false
+is_withheld (Some (Offered s)) = false
+is_withheld (Some (Withheld c)) = true
 
 -- the share of the offered lines in hundredths, rounded down; 0 where there are no lines
 abbrev pub share_of : (offered lines : ℕ) → ℕ
 share_of offered lines = cond (lines == 0) 0 (100 * offered / lines)
 
--- two lists of one length, with a relation between what stands at the same place
-abbrev pub EachOf : {X Y : Type 0} → (X → Y → Type 0) → List X → List Y → Type 0
-EachOf R [] [] = Unit {0}
-EachOf R [] (y ∷ ys) = ⊥
-EachOf R (x ∷ xs) [] = ⊥
-EachOf R (x ∷ xs) (y ∷ ys) = R x y × EachOf R xs ys
-
 -- one line more is counted
-pub record OneMore (outcome : LineOutcome) (before after : JobCount) : Type 0 where
+pub record OneMore (outcome : Option Verdict) (before after : JobCount) : Type 0 where
   pub lines : after.lines ≡ before.lines + 1
   pub offered : after.offered ≡ before.offered + cond (is_offered outcome) 1 0
   pub withheld : after.withheld ≡ before.withheld + cond (is_withheld outcome) 1 0
@@ -76,12 +68,12 @@ module _ (reg : Register Term Marks) (list : ℕ) where
     pub judged : verdict_answer reg list key ≡ Ok verdict
 
   -- what becomes of a line: it is the text of no key, or its key has a verdict
-  abbrev pub Becomes : List ℕ → LineOutcome → Type 0
-  Becomes line Unreadable = (f : Fault) × (key_fault line ≡ Some f)
-  Becomes line (Judged v) = ReadAs line v
+  abbrev pub Becomes : List ℕ → Option Verdict → Type 0
+  Becomes line None = (f : Fault) × (key_fault line ≡ Some f)
+  Becomes line (Some v) = ReadAs line v
 
   -- the same with the refusal: no such list
-  abbrev pub Judges : List ℕ → Result LineOutcome Fault → Type 0
+  abbrev pub Judges : List ℕ → Result (Option Verdict) Fault → Type 0
   Judges line (Ok outcome) = Becomes line outcome
   Judges line (Err f) = list_fault (key_tree reg) list ≡ Some f
 
@@ -93,8 +85,8 @@ module _ (reg : Register Term Marks) (list : ℕ) where
 
   -- the count of a sheet: each line has its outcome, and the outcomes are counted by their kind
   pub record JobOf (sheet : List ℕ) (count : JobCount) : Type 0 where
-    pub outcomes : List LineOutcome
-    pub each : EachOf Becomes (lines_of sheet) outcomes
+    pub outcomes : List (Option Verdict)
+    pub each : AllZip Becomes (lines_of sheet) outcomes
     pub lines : count.lines ≡ length (lines_of sheet)
     pub offered : count.offered ≡ count_by is_offered outcomes
     pub withheld : count.withheld ≡ count_by is_withheld outcomes

@@ -1,3 +1,4 @@
 pub mod Verdicts
 pub mod Sheets
+pub mod Left
 pub mod Jobs

@@ -1,20 +1,15 @@
 -- Sheets: the terms of a job as bytes, one term a line.
-use Rattle.std.specs.Prelude.{◌≡◌, ℕ, ◌+◌, ◌<◌, ◌≤◌, cond, List, [], ◌∷◌, ◌++◌, length, take, drop, ◌==◌, ◌≢◌}
-use Rattle.std.specs.List.{AllByRecursion}
+use Rattle.std.specs.Prelude.{◌≡◌, ℕ, ◌<◌, cond, List, [], ◌∷◌, ◌++◌, length, ◌==◌, ◌≢◌}
+use Rattle.std.specs.List.{AllByRecursion, onto_first}
 
 -- the byte that ends a line
 abbrev pub line_end : ℕ
 line_end = 10
 
--- a byte put before the first line
-abbrev pub onto : ℕ → List (List ℕ) → List (List ℕ)
-onto b [] = (b ∷ []) ∷ []
-onto b (line ∷ lines) = (b ∷ line) ∷ lines
-
 -- the lines of a sheet, without their ends
 abbrev pub lines_of : List ℕ → List (List ℕ)
 lines_of [] = []
-lines_of (b ∷ bs) = let rest = lines_of bs in cond (b == line_end) ([] ∷ rest) (onto b rest)
+lines_of (b ∷ bs) = let rest = lines_of bs in cond (b == line_end) ([] ∷ rest) (onto_first b rest)
 
 -- What lines are, for any byte that ends them.
 module _ (end : ℕ) where
@@ -50,10 +45,3 @@ LinesOfSheet end =
 pub record FirstLine (sheet line behind : List ℕ) : Type 0 where
   pub lines : lines_of sheet ≡ line ∷ lines_of behind
   pub shorter : length behind < length sheet
-
--- where the first line of a sheet ends: before its end, or with the sheet
-pub record EndsFirst (sheet : List ℕ) (at : ℕ) : Type 0 where
-  pub within : at ≤ length sheet
-  pub none : length sheet ≡ 0 → lines_of sheet ≡ []
-  pub ended : at < length sheet → FirstLine sheet (take at sheet) (drop (at + 1) sheet)
-  pub last : at ≡ length sheet → 0 < length sheet → FirstLine sheet sheet []

@@ -3,8 +3,8 @@ ghost use Rattle.std.specs.Prelude.{◌≡◌, ◌<◌, ◌≤◌};
 ghost use Rattle.index.specs.Held.{machine_of};
 ghost use Rattle.jobs.specs.Jobs.{longest_sheet, Adds, OneMore, Counts, share_of};
 
-use crate::judging::{LineOutcome, ask_list, judge_line};
-use crate::lines::first_line;
+use crate::judging::{ask_list, judge_line};
+use crate::lines::Lines;
 use crate::verdict::Verdict;
 use faults::{Fault, Reason};
 use index::Index;
@@ -15,7 +15,7 @@ use terms::marks::Marks;
 pub const LONGEST_SHEET: usize = 65_535;
 
 // How many lines a sheet has, how many of them come to what, and the share of the offered ones in hundredths.
-#[derive(Clone, Copy, PartialEq, Eq, Debug)]
+#[derive(Clone, Copy, PartialEq, Eq, Default, Debug)]
 pub struct JobCount {
     pub lines: usize,
     pub offered: usize,
@@ -26,27 +26,17 @@ pub struct JobCount {
 }
 
 impl JobCount {
-    // No line is counted yet.
-    const NONE: JobCount = JobCount {
-        lines: 0,
-        offered: 0,
-        withheld: 0,
-        absent: 0,
-        unreadable: 0,
-        share: 0,
-    };
-
     // Counts one line more.
-    fn add(&mut self, outcome: LineOutcome)
+    fn add(&mut self, outcome: Option<Verdict>)
         requires { (Adds self.old) × (self.old.lines < longest_sheet) }
         ensures { OneMore outcome self.old self.new }
     {
         self.lines += 1;
         match outcome {
-            LineOutcome::Unreadable => self.unreadable += 1,
-            LineOutcome::Judged(Verdict::Absent) => self.absent += 1,
-            LineOutcome::Judged(Verdict::Offered(_)) => self.offered += 1,
-            LineOutcome::Judged(Verdict::Withheld(_)) => self.withheld += 1,
+            None => self.unreadable += 1,
+            Some(Verdict::Absent) => self.absent += 1,
+            Some(Verdict::Offered(_)) => self.offered += 1,
+            Some(Verdict::Withheld(_)) => self.withheld += 1,
         }
     }
 
@@ -55,10 +45,7 @@ impl JobCount {
         requires { (Adds self.now) × (self.now.lines ≤ longest_sheet) }
         ensures { result ≡ share_of self.now.offered self.now.lines }
     {
-        if self.lines == 0 {
-            return 0;
-        }
-        100 * self.offered / self.lines
+        (100 * self.offered).checked_div(self.lines).unwrap_or(0)
     }
 }
 
@@ -71,11 +58,9 @@ pub fn count_job(index: &Index<Term, Marks>, list: usize, sheet: &[u8]) -> Resul
         return Err(Fault::new(Reason::SheetTooLong, sheet.len(), 0));
     }
     ask_list(index, list)?;
-    let mut count = JobCount::NONE;
-    let mut rest = sheet;
-    while let Some((line, behind)) = first_line(rest) {
+    let mut count = JobCount::default();
+    for line in Lines::of(sheet) {
         count.add(judge_line(index, list, line)?);
-        rest = behind;
     }
     count.share = count.offered_share();
     Ok(count)

@@ -13,13 +13,6 @@ use orders::side::Side;
 use terms::key::Term;
 use terms::marks::Marks;
 
-// What becomes of a line of a sheet: it is the text of no term key, or its key has a verdict.
-#[derive(Clone, Copy)]
-pub enum LineOutcome {
-    Unreadable,
-    Judged(Verdict),
-}
-
 // The verdict on a term at an end list, or the refusal: no such list.
 pub fn verdict(index: &Index<Term, Marks>, list: usize, key: &Term) -> Result<Verdict, Fault>
     ensures { result ≡ verdict_answer (machine_of index.now).register list key.now }
@@ -37,17 +30,17 @@ pub(crate) fn ask_list(index: &Index<Term, Marks>, list: usize) -> Result<(), Fa
     Ok(())
 }
 
-// What becomes of a line at an end list, or the refusal: no such list.
+// The verdict on a line at an end list, nothing where the line is the text of no term key; or the refusal: no such list.
 pub fn judge_line(
     index: &Index<Term, Marks>,
     list: usize,
     line: &[u8],
-) -> Result<LineOutcome, Fault>
+) -> Result<Option<Verdict>, Fault>
     ensures { Judges (machine_of index.now).register list line.now result }
 {
     let Ok(key) = Term::new(line) else {
-        return Ok(LineOutcome::Unreadable);
+        return Ok(None);
     };
     let found = verdict(index, list, &key)?;
-    Ok(LineOutcome::Judged(found))
+    Ok(Some(found))
 }

@@ -35,13 +35,13 @@ impl Verdict {
         if entries == 0 {
             return Verdict::Absent;
         }
-        if marks.bits & Marks::WITHDRAWN != 0 {
+        if marks.has(Marks::WITHDRAWN) {
             return Verdict::Withheld(Cause::Withdrawn);
         }
-        if marks.bits & Marks::BANNED != 0 {
+        if marks.has(Marks::BANNED) {
             return Verdict::Withheld(Cause::Ban);
         }
-        if marks.bits & Marks::PREFERRED != 0 {
+        if marks.has(Marks::PREFERRED) {
             Verdict::Offered(Standing::Preferred)
         } else {
             Verdict::Offered(Standing::Plain)

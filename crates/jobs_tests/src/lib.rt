@@ -26,11 +26,6 @@ mod tests {
         },
     ];
 
-    const NO_ROW: Row = Row {
-        own: 0,
-        children: [0; 4],
-    };
-
     fn entry(text: &[u8], bits: u32) -> Result<Entry<Term, Marks>, Fault> {
         Ok(Entry {
             key: Term::new(text)?,
@@ -51,40 +46,43 @@ mod tests {
         ])
     }
 
-    // The verdict on a text at a list.
-    fn judge(list: usize, text: &[u8]) -> Result<Verdict, Fault> {
+    // What a question comes to, asked of an index of the two lists.
+    fn ask<T, F: FnOnce(&Index<'_, Term, Marks>) -> Result<T, Fault>>(
+        question: F,
+    ) -> Result<T, Fault>
+        requires { F.IsAlwaysCallable question }
+    {
         let entries = entries()?;
-        let key = Term::new(text)?;
-        let mut keys = [key; 7];
-        let mut rows = [NO_ROW; 9];
-        let mut payloads = [Marks { bits: 0 }; 7];
+        let mut keys = [entries[0].key; 7];
+        let mut rows = [Row::default(); 9];
+        let mut payloads = [Marks::default(); 7];
         let mut index = Index::set_up(&mut keys, &mut rows, &mut payloads);
         index.build(&Stored::new(&ROWS, &entries))?;
-        verdict(&index, list, &key)
+        question(&index)
+    }
+
+    // The verdict on a text at a list.
+    fn judge(list: usize, text: &[u8]) -> Result<Verdict, Fault> {
+        let key = Term::new(text)?;
+        ask(|index| verdict(index, list, &key))
     }
 
     // The count of a sheet at a list.
     fn count(list: usize, sheet: &[u8]) -> Result<JobCount, Fault> {
-        let entries = entries()?;
-        let mut keys = [entries[0].key; 7];
-        let mut rows = [NO_ROW; 9];
-        let mut payloads = [Marks { bits: 0 }; 7];
-        let mut index = Index::set_up(&mut keys, &mut rows, &mut payloads);
-        index.build(&Stored::new(&ROWS, &entries))?;
-        count_job(&index, list, sheet)
+        ask(|index| count_job(index, list, sheet))
     }
 
-    // A count of lines: offered, withheld, absent and unreadable ones, and the share.
-    fn counted(kinds: [usize; 4], lines: usize, share: usize) -> Result<JobCount, Fault> {
+    // A count of lines: offered, withheld, absent and unreadable ones, all, and the share.
+    fn counted(kinds: [usize; 4], lines: usize, share: usize) -> JobCount {
         let [offered, withheld, absent, unreadable] = kinds;
-        Ok(JobCount {
+        JobCount {
             lines,
             offered,
             withheld,
             absent,
             unreadable,
             share,
-        })
+        }
     }
 
     #[test]
@@ -108,20 +106,26 @@ mod tests {
 
     #[test]
     fn sheets(rt: HostRuntime) {
-        assert_eq!(rt; count(1, b""), counted([0, 0, 0, 0], 0, 0));
-        assert_eq!(rt; count(1, b"\n\n"), counted([0, 0, 0, 2], 2, 0));
-        assert_eq!(rt; count(0, b"nut\n\ncap\nnail"), counted([2, 0, 1, 1], 4, 50));
-        assert_eq!(rt; count(1, b"nut\nnail\ncap\n"), counted([1, 1, 1, 0], 3, 33));
-        assert_eq!(rt; count(0, b"n\0t\nnut\n"), counted([1, 0, 0, 1], 2, 50));
-        assert_eq!(rt; count(0, b"\n\x0d\n"), counted([0, 0, 1, 1], 2, 0));
+        assert_eq!(rt; count(1, b""), Ok(counted([0, 0, 0, 0], 0, 0)));
+        assert_eq!(rt; count(1, b"\n\n"), Ok(counted([0, 0, 0, 2], 2, 0)));
+        assert_eq!(rt;
+            count(0, b"nut\n\ncap\nnail"),
+            Ok(counted([2, 0, 1, 1], 4, 50))
+        );
+        assert_eq!(rt;
+            count(1, b"nut\nnail\ncap\n"),
+            Ok(counted([1, 1, 1, 0], 3, 33))
+        );
+        assert_eq!(rt; count(0, b"n\0t\nnut\n"), Ok(counted([1, 0, 0, 1], 2, 50)));
+        assert_eq!(rt; count(0, b"\n\x0d\n"), Ok(counted([0, 0, 1, 1], 2, 0)));
     }
 
     // A line of 32 bytes is a term's, one of 33 is not.
     #[test]
     fn long_lines(rt: HostRuntime) {
         let line = [b'n'; 33];
-        assert_eq!(rt; count(0, &line[1..]), counted([0, 0, 1, 0], 1, 0));
-        assert_eq!(rt; count(0, &line), counted([0, 0, 0, 1], 1, 0));
+        assert_eq!(rt; count(0, &line[1..]), Ok(counted([0, 0, 1, 0], 1, 0)));
+        assert_eq!(rt; count(0, &line), Ok(counted([0, 0, 0, 1], 1, 0)));
     }
 
     // The sheet's length is asked for first, then the list, even where there is no line.
@@ -129,7 +133,10 @@ mod tests {
     fn refusals(rt: HostRuntime) {
         let sheet = [b'\n'; 65_536];
         let most = 65_535;
-        assert_eq!(rt; count(1, &sheet[1..]), counted([0, 0, 0, most], most, 0));
+        assert_eq!(rt;
+            count(1, &sheet[1..]),
+            Ok(counted([0, 0, 0, most], most, 0))
+        );
         let too_long = Err(Fault::new(Reason::SheetTooLong, 65_536, 0));
         assert_eq!(rt; count(1, &sheet), too_long);
         assert_eq!(rt; count(2, &sheet), too_long);

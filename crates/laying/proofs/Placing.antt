@@ -1,8 +1,9 @@
 -- Runs laid down from the last to the first.
 use Rattle.std.proofs.Common.{◌≡◌, ℕ, zero, suc, ◌+◌, ◌-◌, ◌<◌, ◌≤◌, List, [], ◌∷◌, ◌++◌, map, length, get_or, take, drop, sum_by, sym, refl, ap, ◌∙◌, arith, length-drop}
 use lib.Seq.{paste}
+use borrow.Rule.Slice.PartMut.{post_of}
 use Rattle.std.proofs.lemmas.List.Edits.{paste_all}
-use Rattle.std.proofs.lemmas.List.{append_assoc, take-append-drop, drop_all, take_at, drop_at, drop-drop, drop_more, get_or-drop, drop-take, take-take, take-append-le, length-take-le}
+use Rattle.std.proofs.lemmas.List.{append-nil, append_assoc, take-append-drop, drop_all, take_at, drop_at, drop-drop, drop_more, get_or-drop, drop-take, take-take, take-append-le, length-take-le}
 use Rattle.std.proofs.lemmas.List.Sums.{sum_by-cons, sum_by-take-drop}
 use Rattle.register.specs.Memory.{joined_lists}
 
@@ -14,6 +15,17 @@ paste-before memory xs rest at n room m =
     paste_all (take (at + n) memory ++ rest) at xs n m
     ∙ ap (λ zs. zs ++ (xs ++ drop (at + n) (take (at + n) memory ++ rest))) (take-append-le at (take (at + n) memory) rest (omega arith) ∙ take-take at (at + n) memory (omega arith))
     ∙ ap (λ zs. take at memory ++ (xs ++ zs)) (drop_at (take (at + n) memory) rest (at + n) l)
+
+-- a list written at the end of the first of two parts
+pub paste-front : {X : Type 0} (front back xs : List X) (at n : ℕ) → at + n ≡ length front → n ≡ length xs
+    → take at front ++ (xs ++ post_of at (length front - at) front) ++ back ≡ paste (front ++ back) at xs n
+paste-front front back xs at n e m =
+    ap (λ zs. take at front ++ (xs ++ zs) ++ back) (drop-drop (length front - at) at front ∙ drop_all (at + (length front - at)) front (omega arith))
+    ∙ ap (λ zs. take at front ++ zs ++ back) (append-nil xs)
+    ∙ append_assoc (take at front) xs back
+    ∙ ap (λ zs. zs ++ (xs ++ back)) (sym (take-append-le at front back (omega arith)))
+    ∙ ap (λ zs. take at (front ++ back) ++ (xs ++ zs)) (sym (drop_at front back (at + n) (sym e)))
+    ∙ sym (paste_all (front ++ back) at xs n m)
 
 -- the lists from v on are list v and those behind it
 joined-from : {X Y : Type 0} (f : List Y → List X) (gs : List (List Y)) (v : ℕ) → v < length gs

@@ -1,9 +1,9 @@
--- The runs of a list's children, by ordinal.
-use Rattle.std.specs.Prelude.{◌≡◌, ℕ, ◌<◌, ◌≤◌, List, ◌≢◌, slice_index_or}
+-- The keys of a list's children, by ordinal.
+use Rattle.std.specs.Prelude.{◌≡◌, ℕ, ◌+◌, ◌-◌, ◌<◌, ◌≤◌, List, [], take, drop, ◌≢◌, slice_index_or}
 use Rattle.register.specs.Limits.{most_lists, most_children}
 use Rattle.plan.specs.declared.table.ListRun.{ListRun}
 
--- the run of a child that does not exist: it has no keys
+-- what stands for a run past the end
 abbrev pub no_run : ListRun
 no_run = record { parent = 0; ordinal = 0; start = 0; length = 0; first = 0; count = 0 }
 
@@ -16,7 +16,16 @@ pub record Ordinals (runs : List ListRun) (n : ℕ) : Type 0 where
   pub below : (w : ℕ) → 0 < w → w < n → (run_of runs w).ordinal < most_children
   pub apart : (u w : ℕ) → 0 < u → u < n → 0 < w → w < n → (run_of runs u).parent ≡ (run_of runs w).parent → (run_of runs u).ordinal ≡ (run_of runs w).ordinal → u ≡ w
 
--- the runs of those of the first n lists of which v is the parent, each at its ordinal; the root is nobody's child
-pub record ChildRuns (runs : List ListRun) (n v : ℕ) (children : List ListRun) : Type 0 where
-  pub found : (w : ℕ) → 0 < w → w < n → (run_of runs w).parent ≡ v → run_of children (run_of runs w).ordinal ≡ run_of runs w
-  pub none : (j : ℕ) → ((w : ℕ) → 0 < w → w < n → (run_of runs w).parent ≡ v → (run_of runs w).ordinal ≢ j) → run_of children j ≡ no_run
+-- those of the first n lists of which v is the parent lie in the `size` keys behind the first `end`
+abbrev pub RunsBehind : List ListRun → ℕ → ℕ → ℕ → ℕ → Type 0
+RunsBehind runs n v end size = (w : ℕ) → 0 < w → w < n → (run_of runs w).parent ≡ v → (end ≤ (run_of runs w).start) × ((run_of runs w).start + (run_of runs w).length ≤ end + size)
+
+module _ {K : Type 0} where
+  -- the keys that a run holds, where memory from `end` on is `behind`
+  abbrev pub keys_in : ListRun → ℕ → List K → List K
+  keys_in run end behind = take run.length (drop (run.start - end) behind)
+
+  -- the keys of those of the first n lists of which v is the parent, each at its ordinal; the root is nobody's child
+  pub record ChildKeys (runs : List ListRun) (n v end : ℕ) (behind : List K) (children : List (List K)) : Type 0 where
+    pub found : (w : ℕ) → 0 < w → w < n → (run_of runs w).parent ≡ v → slice_index_or children (run_of runs w).ordinal [] ≡ keys_in (run_of runs w) end behind
+    pub none : (j : ℕ) → ((w : ℕ) → 0 < w → w < n → (run_of runs w).parent ≡ v → (run_of runs w).ordinal ≢ j) → slice_index_or children j [] ≡ []

@@ -1,3 +1,4 @@
 pub mod Laying
 pub mod Merging
+pub mod Numbering
 pub mod Children

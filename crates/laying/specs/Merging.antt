@@ -1,5 +1,5 @@
 -- The merge of a list's own keys with its children's samples: the sources, their heads, and the step to the least head.
-use Rattle.std.specs.Prelude.{◌≡◌, ℕ, zero, suc, ◌+◌, ◌^◌, ◌<◌, ◌≤◌, cond, List, [], length, take, drop, Some, None, Option, slice_index, slice_set}
+use Rattle.std.specs.Prelude.{◌≡◌, ℕ, zero, suc, ◌+◌, ◌^◌, ◌<◌, ◌≤◌, cond, List, [], length, Some, None, Option, slice_index, slice_index_or, slice_set}
 use Rattle.std.specs.declared.cmp.Ordering.{Ordering}
 use Rattle.std.specs.List.{slice_get}
 use Rattle.std.specs.Ordering.{is_lt}
@@ -8,8 +8,6 @@ use Rattle.cascade.specs.Theorems.{before, part_of}
 use Rattle.cascade.specs.Trees.{Tagged}
 use Rattle.cascade.specs.declared.row.Row.{Row}
 use Rattle.register.specs.Limits.{most_children}
-use Rattle.plan.specs.declared.table.ListRun.{ListRun}
-use Rattle.laying.specs.Children.{run_of}
 
 -- the own keys, and the samples of each child
 abbrev pub source_count : ℕ
@@ -25,23 +23,15 @@ abbrev pub counted_in : Row → ℕ → Row
 counted_in row zero = record { own = row.own + 1; children = row.children }
 counted_in row (suc j) = record { own = row.own; children = slice_set row.children j (slice_index row.children j + 1) }
 
--- each run ends within the memory
-abbrev pub RunsWithin : List ListRun → ℕ → Type 0
-RunsWithin children n = (j : ℕ) → (run_of children j).start + (run_of children j).length ≤ n
-
 module _ {K : Type 0} where
-  -- the keys that a run holds in memory
-  abbrev pub keys_in : ListRun → List K → List K
-  keys_in run keys = take run.length (drop run.start keys)
-
   -- source 0 is the list's own keys, and source j + 1 the samples of its child with ordinal j
-  abbrev pub source_keys : List K → List ListRun → List K → ℕ → List K
-  source_keys own children keys zero = own
-  source_keys own children keys (suc j) = samples (keys_in (run_of children j) keys)
+  abbrev pub source_keys : List K → List (List K) → ℕ → List K
+  source_keys own children zero = own
+  source_keys own children (suc j) = samples (slice_index_or children j [])
 
   -- the first key of a source that the row does not count
-  abbrev pub head_of : List K → List ListRun → List K → Row → ℕ → Option K
-  head_of own children keys row source = slice_get (source_keys own children keys source) (taken_of row source)
+  abbrev pub head_of : List K → List (List K) → Row → ℕ → Option K
+  head_of own children row source = slice_get (source_keys own children source) (taken_of row source)
 
 module _ {K : Type 0} (order : K → K → Ordering) where
   -- a source's head, where it is below the best so far
@@ -55,12 +45,9 @@ module _ {K : Type 0} (order : K → K → Ordering) where
   least_head heads zero = None
   least_head heads (suc n) = lesser (heads n) n (least_head heads n)
 
-  -- that the list xs can be merged into key memory from `start` on: its sources lie behind it or on the shelf
-  pub record Mergeable (xs : List (Tagged K)) (own : List K) (children : List ListRun) (start : ℕ) (keys : List K) : Type 0 where
+  -- that the list xs is the merge of its sources
+  pub record Mergeable (xs : List (Tagged K)) (own : List K) (children : List (List K)) : Type 0 where
     pub short : length xs < 2 ^ 32
-    pub room : start + length xs ≤ length keys
-    pub within : RunsWithin children (length keys)
     pub sorted : Sorted (before order) xs
-    -- whatever is written in front of those in memory
-    pub sources : (written : List K) → drop (start + length xs) written ≡ drop (start + length xs) keys → (s : ℕ) → s < source_count → source_keys own children written s ≡ part_of s xs
+    pub sources : (s : ℕ) → s < source_count → source_keys own children s ≡ part_of s xs
     pub others : (s : ℕ) → source_count ≤ s → part_of s xs ≡ []

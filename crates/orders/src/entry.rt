@@ -1,5 +1,5 @@
 // An entry of a list: a key with its payload.
-#[derive(Clone, Copy)]
+#[derive(Clone, Copy, PartialEq, Eq, Debug)]
 pub struct Entry<K, P> {
     pub key: K,
     pub payload: P,

@@ -85,3 +85,7 @@ granted-none (Some f) e = let z : ◌≡◌ {A = ℕ} 0 1 = cc in absurd (omega 
 pub refused-some : (o : Option Fault) (f : Fault) → Refuses o f → o ≡ Some f
 refused-some None f e = let z : ◌≡◌ {A = ℕ} 0 1 = cc in absurd (omega arith)
 refused-some (Some h) f e = cc
+
+-- what is left to ask from 1 on is all, where 0 is granted
+pub ask-but_first : (q : ℕ → Option Fault) (n : ℕ) → 1 ≤ n → q 0 ≡ None → ask_from q 1 n ≡ ask_each q (range_with_len 0 n)
+ask-but_first q n h e = ask-more q 0 n h e ∙ ask-all q n

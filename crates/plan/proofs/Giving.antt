@@ -1,13 +1,13 @@
 -- Lists that give a fourth of what they hold to their parents, from the last to the first.
-use Rattle.std.proofs.Common.{◌≡◌, ℕ, zero, suc, ◌+◌, ◌-◌, ◌/◌, ◌<◌, ◌≤◌, Bool, true, false, cond, eqb, List, ◌∷◌, length, get_or, take, set, sum_by, sum, filter, sym, refl, ap, ◌∙◌, subst, inl, inr, arith}
+use Rattle.std.proofs.Common.{◌≡◌, ℕ, zero, suc, ◌+◌, ◌-◌, ◌/◌, ◌<◌, ◌≤◌, Bool, true, false, cond, eqb, List, ◌∷◌, length, get_or, take, set, sum_by, filter, sym, refl, ap, ◌∙◌, subst, inl, inr, arith}
 use lib.Seq.{take-set-lt}
 use Rattle.std.specs.List.{range_with_len}
-use Rattle.std.proofs.lemmas.List.{length-set, length-take-le, get_or-take}
+use Rattle.std.proofs.lemmas.List.{length-set, length-take-le, get_or-take, get_or-set_same, get_or-set_other}
 use Rattle.std.proofs.lemmas.List.Sums.{sum_by-cons, sum_by_more, sum_by-set, get_or-le-sum_by}
 use Rattle.std.proofs.lemmas.Bool.{cases_eq, eq-eqb, ne_eqb}
 use Rattle.register.specs.Limits.{most_lists, most_entries}
-use Rattle.plan.specs.Columns.{cell, Holds, Smaller, length_by}
-use Rattle.plan.proofs.Filling.{set_here, set_apart}
+use Rattle.plan.specs.Columns.{no_run, nth_run, parent_in, length_in, Holds, Smaller}
+use Rattle.plan.specs.declared.table.ListRun.{ListRun}
 
 -- the same numbers pass, and those that do have the same values
 pub kept_same : (f h : ℕ → Bool) (g k : ℕ → ℕ) (a n : ℕ) → ((w : ℕ) → a ≤ w → w < a + n → f w ≡ h w) → ((w : ℕ) → a ≤ w → w < a + n → h w ≡ true → g w ≡ k w)
@@ -23,79 +23,115 @@ kept_same f h g k a (suc n) p q =
       | false ↦ λ e. ih
     ] (q a (omega arith) (omega arith))
 
--- own entries, and a fourth of each child from list i on
-abbrev pub length_from : (i n : ℕ) (parents counts lengths : List ℕ) → ℕ → ℕ
-length_from i n parents counts lengths v = cell counts v + sum_by (λ w. cell lengths w / 4) (filter (λ w. eqb (cell parents w) v) (range_with_len i (n - i)))
+-- own keys, and a fourth of each child from list i on
+abbrev pub length_from : (i n : ℕ) (parents own lengths : ℕ → ℕ) → ℕ → ℕ
+length_from i n parents own lengths v = own v + sum_by (λ w. lengths w / 4) (filter (λ w. eqb (parents w) v) (range_with_len i (n - i)))
 
-module _ (n : ℕ) (ps cs : List ℕ) where
-  pub none-gave : Holds n (length_from n n ps cs cs) cs
+abbrev pub held : (i : ℕ) → List ListRun → ℕ
+held i runs = sum_by (λ r. r.length) (take i runs)
+
+-- only the lengths are other
+abbrev pub Alike : (n : ℕ) (old new : List ListRun) → Type 0
+Alike n old new = (v : ℕ) → v < n → nth_run new v ≡ record (nth_run old v) { length = length_in new v }
+
+-- list w gives a fourth to list p
+abbrev pub given_to : (new : List ListRun) (w p : ℕ) → List ListRun
+given_to new w p = set new p (record (nth_run new p) { length = length_in new p + length_in new w / 4 })
+
+module _ (n : ℕ) (old : List ListRun) where
+  pub none-gave : Holds n (length_from n n (parent_in old) (length_in old) (length_in old)) (length_in old)
   none-gave v h =
+      let f : ℕ → Bool = λ w. eqb (parent_in old w) v in
       let e : n - n ≡ 0 = omega arith in
-      let s : sum_by (λ w. cell cs w / 4) (filter (λ w. eqb (cell ps w) v) (range_with_len n (n - n))) ≡ 0 = ap (λ k. sum_by (λ w. cell cs w / 4) (filter (λ w. eqb (cell ps w) v) (range_with_len n k))) e in
+      let s : sum_by (λ w. length_in old w / 4) (filter f (range_with_len n (n - n))) ≡ 0 = ap (λ k. sum_by (λ w. length_in old w / 4) (filter f (range_with_len n k))) e in
       omega arith
 
-  pub all-gave : (ls : List ℕ) (i : ℕ) → (1 ≤ n → i ≡ 1) → Holds n (length_from i n ps cs ls) ls → Holds n (length_by n ps cs ls) ls
-  all-gave ls i one inv v h = subst (λ k. cell ls v ≡ length_from k n ps cs ls v) (one (omega arith)) (inv v h)
-
   -- list w gives to its parent
-  module _ (ls : List ℕ) (w : ℕ) (some : 0 < w) (there : w < n) (room : n ≤ most_lists) (smaller : Smaller n ps) (size : length ls ≡ most_lists) (within : sum (take (w + 1) ls) ≤ most_entries) where
-    abbrev pub given : List ℕ
-    given = set ls (cell ps w) (cell ls (cell ps w) + cell ls w / 4)
+  module _ (new : List ListRun) (w : ℕ) (some : 0 < w) (there : w < n) (room : n ≤ most_lists) (smaller : Smaller n (parent_in old)) (size : length new ≡ most_lists) (within : held (w + 1) new ≤ most_entries) where
+    abbrev p : ℕ
+    p = parent_in old w
 
-    held : sum (take (w + 1) ls) ≡ sum (take w ls) + cell ls w
-    held = sum_by_more (λ x. x) ls w 0 (omega arith)
+    abbrev more : ℕ
+    more = length_in new p + length_in new w / 4
 
-    front : get_or (take w ls) (cell ps w) 0 ≡ cell ls (cell ps w)
-    front = get_or-take w ls (cell ps w) 0 (smaller w some there)
+    abbrev pub given : List ListRun
+    given = given_to new w p
 
-    front-size : length (take w ls) ≡ w
-    front-size = length-take-le w ls (omega arith)
+    both : held (w + 1) new ≡ held w new + length_in new w
+    both = sum_by_more (λ (r : ListRun). r.length) new w no_run (omega arith)
 
-    pub given-fits : cell ls (cell ps w) + cell ls w / 4 ≤ most_entries
+    front : get_or (take w new) p no_run ≡ nth_run new p
+    front = get_or-take w new p no_run (smaller w some there)
+
+    front-size : length (take w new) ≡ w
+    front-size = length-take-le w new (omega arith)
+
+    pub given-fits : more ≤ most_entries
     given-fits =
-        let p = smaller w some there in
+        let l = smaller w some there in
         let z = front-size in
-        let g = get_or-le-sum_by (λ x. x) (take w ls) (cell ps w) 0 (omega arith) in
-        let f = front in
-        let h = held in
+        let g = get_or-le-sum_by (λ (r : ListRun). r.length) (take w new) p no_run (omega arith) in
+        let f = ap (λ (r : ListRun). r.length) front in
+        let h = both in
         omega arith
 
-    pub given-within : sum (take w given) ≤ most_entries
+    pub given-within : held w given ≤ most_entries
     given-within =
-        let p = smaller w some there in
+        let l = smaller w some there in
         let z = front-size in
-        let x = cell ls (cell ps w) + cell ls w / 4 in
-        let e : sum (take w given) ≡ sum (set (take w ls) (cell ps w) x) = ap sum (take-set-lt w ls (cell ps w) x p) in
-        let s = sum_by-set (λ y. y) (take w ls) (cell ps w) x 0 (omega arith) in
-        let f = front in
-        let h = held in
+        let x = record (nth_run new p) { length = more } in
+        let e : held w given ≡ sum_by (λ (r : ListRun). r.length) (set (take w new) p x) = ap (sum_by (λ (r : ListRun). r.length)) (take-set-lt w new p x l) in
+        let s = sum_by-set (λ (r : ListRun). r.length) (take w new) p x no_run (omega arith) in
+        let f = ap (λ (r : ListRun). r.length) front in
+        let h = both in
         omega arith
 
-    pub given_holds : Holds n (length_from (w + 1) n ps cs ls) ls → Holds n (length_from w n ps cs given) given
+    here : nth_run given p ≡ record (nth_run new p) { length = more }
+    here = let l = smaller w some there in get_or-set_same new p (record (nth_run new p) { length = more }) no_run (omega arith)
+
+    apart : (v : ℕ) → (v ≡ p → ⊥) → nth_run given v ≡ nth_run new v
+    apart v d = get_or-set_other new p v (record (nth_run new p) { length = more }) no_run d
+
+    pub given-alike : Alike n old new → Alike n old given
+    given-alike same v h =
+        elim (cases_eq v p) [
+          | inl e ↦ subst (λ u. nth_run given u ≡ record (nth_run old u) { length = length_in given u }) (sym e) (let l = smaller w some there in let s = same p (omega arith) in let k = here in cc)
+          | inr d ↦ let a = apart v d in let s = same v h in cc
+        ]
+
+    pub given_holds : Holds n (length_from (w + 1) n (parent_in old) (length_in old) (length_in new)) (length_in new) → Holds n (length_from w n (parent_in old) (length_in old) (length_in given)) (length_in given)
     given_holds inv v h =
-        let p = cell ps w in
         let pw = smaller w some there in
-        let x = cell ls p + cell ls w / 4 in
-        let f : ℕ → Bool = λ u. eqb (cell ps u) v in
-        let g : ℕ → ℕ = λ u. cell ls u / 4 in
+        let f : ℕ → Bool = λ u. eqb (parent_in old u) v in
+        let g : ℕ → ℕ = λ u. length_in new u / 4 in
         let rest = filter f (range_with_len (w + 1) (n - (w + 1))) in
-        let same : sum_by (λ u. cell given u / 4) (filter f (range_with_len w (n - w))) ≡ sum_by g (filter f (range_with_len w (n - w))) =
-        kept_same f f (λ u. cell given u / 4) g w (n - w) (λ u a b. refl) (λ u a b t. ap (λ k. k / 4) (set_apart ls p x u (omega arith))) in
+        let same : sum_by (λ u. length_in given u / 4) (filter f (range_with_len w (n - w))) ≡ sum_by g (filter f (range_with_len w (n - w))) =
+        kept_same f f (λ u. length_in given u / 4) g w (n - w) (λ u a b. refl) (λ u a b t. ap (λ (r : ListRun). r.length / 4) (apart u (omega arith))) in
         let len : n - w ≡ suc (n - (w + 1)) = omega arith in
         let split : sum_by g (filter f (range_with_len w (n - w))) ≡ sum_by g (cond (f w) (w ∷ rest) rest) = ap (λ k. sum_by g (filter f (range_with_len w k))) len in
-        let i : cell ls v ≡ cell cs v + sum_by g rest = inv v h in
+        let i : length_in new v ≡ length_in old v + sum_by g rest = inv v h in
         elim (cases_eq v p) [
           | inl e ↦
               let one : sum_by g (cond (f w) (w ∷ rest) rest) ≡ sum_by g (w ∷ rest) = ap (λ b. sum_by g (cond b (w ∷ rest) rest)) (eq-eqb p v (sym e)) in
-              let more = sum_by-cons g w rest in
-              let here : cell given v ≡ x = ap (cell given) e ∙ set_here ls p x (omega arith) in
-              let old : cell ls v ≡ cell ls p = ap (cell ls) e in
+              let longer = sum_by-cons g w rest in
+              let new-here : length_in given v ≡ length_in new p + length_in new w / 4 = ap (length_in given) e ∙ ap (λ (r : ListRun). r.length) here in
+              let old-here : length_in new v ≡ length_in new p = ap (length_in new) e in
               omega arith
           | inr d ↦
               let none : sum_by g (cond (f w) (w ∷ rest) rest) ≡ sum_by g rest = ap (λ b. sum_by g (cond b (w ∷ rest) rest)) (ne_eqb p v (λ e. d (sym e))) in
-              let here = set_apart ls p x v d in
+              let still = ap (λ (r : ListRun). r.length) (apart v d) in
               omega arith
         ]
 
     pub given-size : length given ≡ most_lists
-    given-size = length-set ls (cell ps w) (cell ls (cell ps w) + cell ls w / 4) ∙ size
+    given-size = length-set new p (record (nth_run new p) { length = more }) ∙ size
+
+    abbrev pub Gave : ℕ → Type 0
+    Gave q =
+        (length (given_to new w q) ≡ most_lists)
+        × Alike n old (given_to new w q)
+        × Holds n (length_from w n (parent_in old) (length_in old) (length_in (given_to new w q))) (length_in (given_to new w q))
+        × (held w (given_to new w q) ≤ most_entries)
+
+    pub gave : Alike n old new → Holds n (length_from (w + 1) n (parent_in old) (length_in old) (length_in new)) (length_in new) → Gave (parent_in new w)
+    gave same inv = subst Gave (sym (ap (λ (r : ListRun). r.parent) (same w there))) (given-size, given-alike same, given_holds inv, given-within)

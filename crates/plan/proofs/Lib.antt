@@ -9,3 +9,4 @@ mod Reading
 mod Linking
 mod Measuring
 mod Planning
+mod Turning

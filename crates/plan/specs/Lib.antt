@@ -1,4 +1,5 @@
 pub mod Columns
 pub mod Laid
+pub mod Lists
 pub mod Room
 pub mod Table

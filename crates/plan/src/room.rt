@@ -1,21 +1,29 @@
 // Room for the lists of a table in the three memories.
 ghost use Rattle.std.specs.Prelude.{◌≡◌};
 ghost use Rattle.register.specs.Questions.{unless};
-ghost use Rattle.plan.specs.Room.{no_table, Countable, room_fault, table_fault};
+ghost use Rattle.plan.specs.Room.{no_table, Countable, number_of, room_fault, table_fault};
 
+use crate::questions::ask;
 use crate::table::{ListTable, NO_RUN};
 use faults::{Fault, Reason};
 use register::limits::MOST_LISTS;
 
-// Has a memory as many places as are needed? The first is key memory, the second row memory, the third payload memory.
-fn ask_room(memory: usize, needed: usize, places: usize) -> Result<(), Fault>
-    ensures { result ≡ unless (room_fault memory needed places) tt }
+// The memories of an index. A refusal names them by their numbers.
+#[derive(Clone, Copy)]
+enum Memory {
+    Keys = 1,
+    Rows = 2,
+    Payloads = 3,
+}
+
+// Has a memory as many places as are needed?
+fn ask_room(memory: Memory, needed: usize, places: usize) -> Result<(), Fault>
+    ensures { result ≡ unless (room_fault (number_of memory) needed places) tt }
 {
-    if needed <= places {
-        Ok(())
-    } else {
-        Err(Fault::new(Reason::IndexMemoryShort, memory, needed))
-    }
+    ask(
+        needed <= places,
+        Fault::new(Reason::IndexMemoryShort, memory as usize, needed),
+    )
 }
 
 impl ListTable {
@@ -36,8 +44,8 @@ impl ListTable {
     {
         let last = self.runs[self.len - 1];
         let taken = last.start + last.length;
-        ask_room(1, taken, keys)?;
-        ask_room(2, taken + self.len, rows)?;
-        ask_room(3, last.first + last.count, payloads)
+        ask_room(Memory::Keys, taken, keys)?;
+        ask_room(Memory::Rows, taken + self.len, rows)?;
+        ask_room(Memory::Payloads, last.first + last.count, payloads)
     }
 }

@@ -17,3 +17,6 @@ pub const MOST_ENTRIES: usize = 40_000;
 
 // How many spans a range has at the most.
 pub const MOST_SPANS: usize = 10;
+
+// Every so many keys of an augmented list one is a sample of its parent's.
+pub const SAMPLE_STEP: usize = 4;

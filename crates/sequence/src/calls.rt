@@ -1,8 +1,8 @@
 // The calls of the sequence, in short words.
-use crate::tables::day;
 use dated::key::DatedKey;
 use index::requests::Request;
 use orders::side::Side;
+use samples::day;
 use shelves::either::Either;
 use shelves::sieved::Sieved;
 use shelves::stored::Stored;

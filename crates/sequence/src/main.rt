@@ -3,10 +3,10 @@
 #![tactic(auto)]
 
 use cascade::row::Row;
-use dated::key::DatedKey;
-use index::requests::{Outcome, Request};
+use index::requests::{Granted, Request};
 use index::run::serve;
 use orders::side::Side;
+use samples::{KEYS, LISTS, PAYLOADS, ROWS, day, points};
 use shelves::either::Either;
 use shelves::sieved::Sieved;
 use shelves::stored::Stored;
@@ -18,8 +18,8 @@ mod outcomes;
 mod tables;
 
 use calls::{AnyShelf, amend, look_up, offer, range};
-use outcomes::print;
-use tables::{LISTS, NEXT_LISTS, entries, points};
+use outcomes::print_all;
+use tables::{NEXT_LISTS, entries};
 
 // Serves the sequence over memory of its own, and prints it.
 fn serve_all<'s>(
@@ -52,19 +52,13 @@ fn serve_all<'s>(
         range(5, 9, 7, 3),
         Request::Clear,
     ];
-    let mut keys = [DatedKey { day: 0, serial: 0 }; 80];
-    let mut rows = [Row {
-        own: 0,
-        children: [0; 4],
-    }; 207];
-    let mut payloads = [Marks { bits: 0 }; 64];
-    let mut outcomes = [Outcome::Cleared; 18];
+    let mut keys = [day(0); KEYS];
+    let mut rows = [Row::default(); ROWS];
+    let mut payloads = [Marks::default(); PAYLOADS];
+    let mut outcomes = [Ok(Granted::Cleared); 18];
     let index = serve(&mut keys, &mut rows, &mut payloads, &calls, &mut outcomes);
     drop(index);
-    for i in 0..18 {
-        print(rt, &calls[i], &outcomes[i])?;
-    }
-    Ok(())
+    print_all(rt, &calls, &outcomes)
 }
 
 fn main(rt: HostRuntime) -> io::Result<()> {

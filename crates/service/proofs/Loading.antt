@@ -25,14 +25,13 @@ answers (Ok tree) needed e lists entries a b =
     let n = ap (λ (l : Loaded). l.lists) s in
     let m = ap (λ (l : Loaded). l.entries) s in
     fits tree lists entries (omega arith) (omega arith) ∙ ap (λ (l : Loaded). Ok l) (sym s)
-answers (Err f) needed e lists entries a b = let z : ◌≡◌ {A = ℕ} 0 1 = cc in absurd (omega arith)
+answers (Err f) needed e lists entries a b = cc
 
 module _ (file : List ℕ) (needed : Loaded) (says : Ok needed ≡ checked (read file)) (lists lists' : List ListRow) (entries entries' : List (Entry Term Marks)) (list_room : length lists ≡ needed.lists) (entry_room : length entries ≡ needed.entries) where
   pub not-refused : (f : Fault) → Loads file lists lists' entries entries' (Err f) → ⊥
   not-refused f loads =
       let e = loads.answers ∙ answers (read file) needed says (length lists) (length entries) list_room entry_room in
-      let z : ◌≡◌ {A = ℕ} 0 1 = cc in
-      omega arith
+      cc
 
   -- the tree fills the memory
   pub loaded : length entries' ≡ length entries → (n : Loaded) → Loads file lists lists' entries entries' (Ok n) → (ls : List ListRow) → ls ≡ lists' → (es : List (Entry Term Marks)) → es ≡ entries'

@@ -1,6 +1,6 @@
 // What a C program may call: `service_c` exports it.
-ghost use Rattle.std.specs.Prelude.{◌≡◌};
-ghost use Rattle.service.specs.Reports.{FileCounts, count_report, refusal_report, Reports};
+ghost use Rattle.std.specs.Prelude.{◌≡◌, Err};
+ghost use Rattle.service.specs.Reports.{FileCounts, count_report, report_of, Reports};
 
 use crate::refusal::Refusal;
 use crate::tree::Tree;
@@ -10,9 +10,10 @@ use std::alloc::Global;
 // In the place of a refusal's number: there was not enough memory.
 const NO_MEMORY: usize = 255;
 
-// A job count for C. Where it was refused all but the refusal's number is 0.
+// A job count for C. Where it was refused all but the refusal's number is 0. C has no Result, so a number stands for the
+// refusal, and 0 for none.
 #[repr(C)]
-#[derive(Clone, Copy)]
+#[derive(Clone, Copy, PartialEq, Eq, Default, Debug)]
 pub struct JobReport {
     pub refusal: usize,
     pub lines: usize,
@@ -23,10 +24,10 @@ pub struct JobReport {
     pub share: usize,
 }
 
-impl JobReport {
-    fn granted(count: JobCount) -> JobReport
-        ensures { result ≡ count_report count }
-    {
+impl From<JobCount> for JobReport {
+    ghost from_gives = { λ count report. report ≡ count_report count };
+
+    fn from(count: JobCount) -> JobReport {
         JobReport {
             refusal: 0,
             lines: count.lines,
@@ -37,18 +38,19 @@ impl JobReport {
             share: count.share,
         }
     }
+}
 
-    fn refused(refusal: usize) -> JobReport
-        ensures { result ≡ refusal_report refusal }
-    {
+impl From<Refusal> for JobReport {
+    ghost from_gives = { λ why report. report ≡ report_of (Err why) };
+
+    fn from(why: Refusal) -> JobReport {
+        let refusal = match why {
+            Refusal::Fault(fault) => fault.reason.number() as usize,
+            Refusal::NoMemory => NO_MEMORY,
+        };
         JobReport {
             refusal,
-            lines: 0,
-            offered: 0,
-            withheld: 0,
-            absent: 0,
-            unreadable: 0,
-            share: 0,
+            ..JobReport::default()
         }
     }
 }
@@ -66,8 +68,7 @@ pub fn galdrisco_count_job(heap: Global, tree: &[u8], sheet: &[u8], list: usize)
     ensures { Reports tree.now sheet.now list result }
 {
     match count_in_file(heap, tree, sheet, list) {
-        Ok(count) => JobReport::granted(count),
-        Err(Refusal::Fault(fault)) => JobReport::refused(fault.reason.number() as usize),
-        Err(Refusal::NoMemory) => JobReport::refused(NO_MEMORY),
+        Ok(count) => count.into(),
+        Err(why) => why.into(),
     }
 }

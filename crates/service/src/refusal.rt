@@ -7,7 +7,7 @@ use faults::Fault;
 use std::alloc::AllocError;
 use std::fmt;
 
-#[derive(Drop)]
+#[derive(Clone, Copy, PartialEq, Eq, Debug)]
 pub enum Refusal {
     Fault(Fault),
     NoMemory,

@@ -1,8 +1,7 @@
 -- The sieve's depths and slots agree with the powers of two, shown at each of its lists.
-use Rattle.std.proofs.Common.{◌≡◌, ℕ, zero, suc, ◌+◌, ◌-◌, ◌*◌, ◌/◌, ◌%◌, ◌^◌, ◌<◌, ◌≤◌, Bool, true, ◌&&◌, eqb, ltb, leb, refl, ap, ◌∙◌, ap₂, ⊎_elim, arith, pow_mono, pow-add}
+use Rattle.std.proofs.Common.{◌≡◌, ℕ, zero, suc, ◌+◌, ◌-◌, ◌*◌, ◌/◌, ◌%◌, ◌^◌, ◌<◌, ◌≤◌, Bool, true, ◌&&◌, eqb, ltb, leb, refl, ap, ◌∙◌, ap₂, arith, pow_mono, pow-add}
 use Rattle.std.proofs.lemmas.Nat.{one_shl}
-use Rattle.std.proofs.lemmas.Bool.{cases_order, and_parts, leb-true, ltb-true, eqb-true}
-use Rattle.std.proofs.lemmas.Bool.Decides.{Decides-below_and}
+use Rattle.std.proofs.lemmas.Bool.Decides.{Decides-below_and, nat_tests}
 use Rattle.shelves.specs.Slots.{sieve_lists, slot_count, sieve_depth, first_slot, width_of}
 
 -- at list v: v + 1 lies between two powers of two, and the width is what a shift of 64 gives
@@ -23,18 +22,15 @@ pub record Fitting (v : ℕ) : Type 0 where
 
 pub fits : (v : ℕ) → v < sieve_lists → Fitting v
 fits v h =
-    let t = and_parts _ _ ((Decides-below_and fitting (λ k. fitting k ≡ true) all_fitting (λ k. (λ e. e, λ e. e)) refl (λ _. refl) sieve_lists).0 refl v h) in
-    let a = and_parts _ _ t.0 in
-    let b = and_parts _ _ t.1 in
-    record { low = leb-true _ _ a.0; high = ltb-true _ _ a.1; shallow = ltb-true _ _ b.0; width = eqb-true _ _ b.1 }
+    let t = (Decides-below_and fitting (λ k. fitting k ≡ true) all_fitting (λ k. (λ e. e, λ e. e)) refl (λ _. refl) sieve_lists).0 refl v h in
+    record { low = grind (arith, nat_tests, t); high = grind (arith, nat_tests, t); shallow = grind (arith, nat_tests, t); width = grind (arith, nat_tests, t) }
 
 -- a number lies between only two powers of two that follow one another
 not-above : (n d e : ℕ) → n < 2 * 2 ^ d → 2 ^ e ≤ n → d < e → ⊥
 not-above n d e h l p = let m : 2 ^ (1 + d) ≤ 2 ^ e = pow_mono (omega arith) in omega (arith, pow-add 2 1 d)
 
 pub same_power : (n d e : ℕ) → 2 ^ d ≤ n → n < 2 * 2 ^ d → 2 ^ e ≤ n → n < 2 * 2 ^ e → d ≡ e
-same_power n d e a b p q =
-    ⊎_elim (λ s. s) (⊎_elim (λ l. absurd (not-above n d e b p l)) (λ l. absurd (not-above n e d q a l))) (cases_order d e)
+same_power n d e a b p q = let x = not-above n d e b p in let y = not-above n e d q a in grind (arith, x, y)
 
 -- the width and the first slot, as they are computed by shifts
 module _ (v d : ℕ) (h : v < sieve_lists) (e : d ≡ sieve_depth v) where

@@ -5,6 +5,7 @@ use crate::Shelf;
 use orders::entry::Entry;
 
 // One of two kinds of shelf with the same keys and payloads. It means what the one that it holds means.
+// Each question matches: one method for all four would take two closures or hand out a `dyn`, which is no plainer.
 #[derive(Clone, Copy)]
 pub enum Either<A, B> {
     First(A),

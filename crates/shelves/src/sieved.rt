@@ -11,7 +11,7 @@ ghost use Rattle.shelves.specs.Tables.{sieved};
 
 use crate::Shelf;
 use crate::rows::Point;
-use crate::slots::{SIEVE_LISTS, SLOT_COUNT, Slots};
+use crate::slots::{SIEVE_LISTS, SLOT_COUNT, Slots, parent_of};
 use faults::{Fault, Reason};
 use orders::entry::Entry;
 use orders::{KeyOrder, Payload};
@@ -28,59 +28,48 @@ impl<'a, K, P> Sieved<'a, K, P> {
         ensures refused { result_err result ≡ option_map (λ i. fault SlotAboveLimit i 0) (first_above 0 points.now) }
         ensures granted { IfOk result (λ s. sieved_of s ≡ sieved points.now) }
     {
-        match first_above(points) {
-            Some(i) => Err(Fault::new(Reason::SlotAboveLimit, i, 0)),
-            None => Ok(Sieved { points }),
-        }
-    }
-}
-
-// The number of the first point whose slot is above 63.
-fn first_above<K, P>(points: &[Point<K, P>]) -> Option<usize>
-    ensures { result ≡ first_above 0 points.now }
-{
-    for (i, p) in points.iter().enumerate() {
-        if usize::from(p.slot) >= SLOT_COUNT {
-            return Some(i);
-        }
-    }
-    None
-}
-
-// How many points lie in the slots.
-fn count_in<K, P>(points: &[Point<K, P>], slots: Slots) -> usize
-    ensures { result ≡ length (sifted_in slots points.now) }
-{
-    let mut n = 0;
-    for (_, p) in points.iter().enumerate() {
-        if slots.hold(p.slot) {
-            n += 1;
-        }
-    }
-    n
-}
-
-// The entry at a place among the points that lie in the slots.
-fn entry_in<K: Copy, P: Copy>(
-    points: &[Point<K, P>],
-    slots: Slots,
-    place: usize,
-) -> Option<Entry<K, P>>
-    ensures { result ≡ slice_get (sifted_in slots points.now) place }
-{
-    let mut before = place;
-    for (_, p) in points.iter().enumerate() {
-        if slots.hold(p.slot) {
-            if before == 0 {
-                return Some(Entry {
-                    key: p.key,
-                    payload: p.payload,
-                });
+        for (i, p) in points.iter().enumerate() {
+            if usize::from(p.slot) >= SLOT_COUNT {
+                return Err(Fault::new(Reason::SlotAboveLimit, i, 0));
             }
-            before -= 1;
         }
+        Ok(Sieved { points })
     }
-    None
+
+    // How many points lie in the slots.
+    fn count_in(&self, slots: Slots) -> usize
+        ensures { result ≡ length (sifted_in slots self.now.points.now) }
+    {
+        let mut n = 0;
+        // Points are gone over with their index, which says how far they are sifted.
+        for (_, p) in self.points.iter().enumerate() {
+            if slots.hold(p.slot) {
+                n += 1;
+            }
+        }
+        n
+    }
+}
+
+impl<'a, K: Copy, P: Copy> Sieved<'a, K, P> {
+    // The entry at a place among the points that lie in the slots.
+    fn entry_in(&self, slots: Slots, place: usize) -> Option<Entry<K, P>>
+        ensures { result ≡ slice_get (sifted_in slots self.now.points.now) place }
+    {
+        let mut before = place;
+        for (_, p) in self.points.iter().enumerate() {
+            if slots.hold(p.slot) {
+                if before == 0 {
+                    return Some(Entry {
+                        key: p.key,
+                        payload: p.payload,
+                    });
+                }
+                before -= 1;
+            }
+        }
+        None
+    }
 }
 
 impl<'a, K: KeyOrder, P: Payload> Shelf for Sieved<'a, K, P> {
@@ -95,22 +84,18 @@ impl<'a, K: KeyOrder, P: Payload> Shelf for Sieved<'a, K, P> {
     }
 
     fn parent(&self, list: usize) -> Option<usize> {
-        if list < SIEVE_LISTS {
-            Some(list.saturating_sub(1) / 2)
-        } else {
-            None
-        }
+        (list < SIEVE_LISTS).then_some(parent_of(list))
     }
 
     fn count(&self, list: usize) -> usize {
+        // Not `map_or`: the check infers no `ensures` for a closure that calls this generic method.
         match Slots::of(list) {
-            Some(slots) => count_in(self.points, slots),
+            Some(slots) => self.count_in(slots),
             None => 0,
         }
     }
 
     fn entry(&self, list: usize, place: usize) -> Option<Entry<K, P>> {
-        let slots = Slots::of(list)?;
-        entry_in(self.points, slots, place)
+        self.entry_in(Slots::of(list)?, place)
     }
 }

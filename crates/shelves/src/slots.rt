@@ -1,29 +1,32 @@
 // The sieve's tree: its lists, their depths and the slots that they cover.
 ghost use Rattle.std.specs.Prelude.{◌≡◌, ◌+◌, ◌^◌, ◌<◌, ◌≤◌, MatchOption};
 ghost use Rattle.shelves.specs.Sieving.{in_slots};
-ghost use Rattle.shelves.specs.Slots.{sieve_lists, sieve_depth, first_slot, width_of};
+ghost use Rattle.shelves.specs.Slots.{sieve_lists, sieve_parent, sieve_depth, first_slot, width_of};
 
-// How many lists the sieve has, and how many slots.
-pub const SIEVE_LISTS: usize = 127;
-
+// How many slots there are, and how many lists: a list for each slot, and one fewer above them.
 pub const SLOT_COUNT: usize = 64;
 
+pub const SIEVE_LISTS: usize = 2 * SLOT_COUNT - 1;
+
 // The slots from `first` to before `end`.
-#[derive(Clone, Copy)]
+#[derive(Clone, Copy, PartialEq, Eq, Debug)]
 pub struct Slots {
     pub first: usize,
     pub end: usize,
+}
+
+// The parent of a list; the root gets its own number.
+pub fn parent_of(list: usize) -> usize
+    ensures { result ≡ sieve_parent list }
+{
+    list.saturating_sub(1) / 2
 }
 
 // The depth of a list; nothing where the sieve has no such list.
 pub fn depth_of(list: usize) -> Option<u32>
     ensures { MatchOption result (sieve_lists ≤ list) (λ d. (list < sieve_lists) × (d ≡ sieve_depth list) × (2 ^ d ≤ list + 1) × (list + 1 < 2 ^ (d + 1))) }
 {
-    if list < SIEVE_LISTS {
-        Some((list + 1).ilog2())
-    } else {
-        None
-    }
+    (list < SIEVE_LISTS).then(|| (list + 1).ilog2())
 }
 
 impl Slots {
@@ -44,7 +47,6 @@ impl Slots {
     pub fn hold(&self, slot: u8) -> bool
         ensures { result ≡ in_slots self.now slot }
     {
-        let slot = usize::from(slot);
-        self.first <= slot && slot < self.end
+        (self.first..self.end).contains(&usize::from(slot))
     }
 }

@@ -28,13 +28,12 @@ impl<'a, K, P> Stored<'a, K, P> {
     fn run(&self, list: usize) -> &'a [Entry<K, P>]
         ensures { result.now ≡ entries_of (slice_get (stored_of self.now) list) }
     {
-        if list >= self.lists.len() {
-            return &self.entries[0..0];
-        }
-        let from = claimed(&self.lists[0..list], self.entries.len());
+        let Some(row) = self.lists.get(list) else {
+            return &[];
+        };
+        let from = claimed(&self.lists[..list], self.entries.len());
         let left = &self.entries[from..];
-        let taken = self.lists[list].count.min(left.len());
-        &left[0..taken]
+        &left[..row.count.min(left.len())]
     }
 }
 
@@ -42,11 +41,10 @@ impl<'a, K, P> Stored<'a, K, P> {
 fn claimed(rows: &[ListRow], limit: usize) -> usize
     ensures { result ≡ min (sum_by (λ row. row.count) rows.now) limit }
 {
-    let mut total = 0;
-    for row in rows {
-        total += row.count.min(limit - total);
-    }
-    total
+    rows.iter().fold(
+        0,
+        |total: usize, row| total.saturating_add(row.count).min(limit),
+    )
 }
 
 impl<'a, K: KeyOrder, P: Payload> Shelf for Stored<'a, K, P> {
@@ -61,11 +59,7 @@ impl<'a, K: KeyOrder, P: Payload> Shelf for Stored<'a, K, P> {
     }
 
     fn parent(&self, list: usize) -> Option<usize> {
-        if list < self.lists.len() {
-            Some(self.lists[list].parent)
-        } else {
-            None
-        }
+        self.lists.get(list).map(|row| row.parent)
     }
 
     fn count(&self, list: usize) -> usize {

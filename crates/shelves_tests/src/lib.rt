@@ -18,6 +18,8 @@ mod tests {
 
     type DatedSieved<'a> = Sieved<'a, DatedKey, Words>;
 
+    type DatedEither<'a> = Either<DatedSieved<'a>, DatedStored<'a>>;
+
     fn dated_entry(day: u32) -> Entry<DatedKey, Words> {
         Entry {
             key: DatedKey { day, serial: 0 },
@@ -26,11 +28,8 @@ mod tests {
     }
 
     fn dated_point(slot: u8, day: u32) -> Point<DatedKey, Words> {
-        Point {
-            slot,
-            key: DatedKey { day, serial: 0 },
-            payload: Words { number: 1 },
-        }
+        let Entry { key, payload } = dated_entry(day);
+        Point { slot, key, payload }
     }
 
     // The day at a place, nothing where there is no entry.
@@ -39,10 +38,7 @@ mod tests {
         list: usize,
         place: usize,
     ) -> Option<u32> {
-        match shelf.entry(list, place) {
-            Some(entry) => Some(entry.key.day),
-            None => None,
-        }
+        shelf.entry(list, place).map(|entry| entry.key.day)
     }
 
     #[test]
@@ -114,28 +110,10 @@ mod tests {
     }
 
     #[test]
-    fn first_slot_above_63(rt: HostRuntime) -> Result<(), Fail> {
+    fn first_slot_above_63(rt: HostRuntime) {
         let points = [dated_point(63, 1), dated_point(64, 2), dated_point(255, 3)];
-        match DatedSieved::new(&points) {
-            Ok(_) => Err(Fail::new("taken")),
-            Err(fault) => {
-                assert_eq!(rt; fault, Fault::new(Reason::SlotAboveLimit, 1, 0));
-                Ok(())
-            },
-        }
-    }
-
-    fn either<'a>(
-        sieve: bool,
-        points: &'a [Point<DatedKey, Words>],
-        rows: &'a [ListRow],
-        entries: &'a [Entry<DatedKey, Words>],
-    ) -> Result<Either<DatedSieved<'a>, DatedStored<'a>>, Fault> {
-        if sieve {
-            Ok(Either::First(Sieved::new(points)?))
-        } else {
-            Ok(Either::Second(Stored::new(rows, entries)))
-        }
+        let fault = Fault::new(Reason::SlotAboveLimit, 1, 0);
+        assert_eq!(rt; DatedSieved::new(&points).err(), Some(fault));
     }
 
     #[test]
@@ -146,10 +124,10 @@ mod tests {
             count: 1,
         }];
         let entries = [dated_entry(20)];
-        let first = either(true, &points, &rows, &entries)?;
+        let first: DatedEither = Either::First(Sieved::new(&points)?);
         assert_eq!(rt; first.lists(), 127);
         assert_eq!(rt; day_at(&first, 68, 0), Some(10));
-        let second = either(false, &points, &rows, &entries)?;
+        let second: DatedEither = Either::Second(Stored::new(&rows, &entries));
         assert_eq!(rt; second.lists(), 1);
         assert_eq!(rt; day_at(&second, 0, 0), Some(20));
         Ok(())

@@ -1,42 +1,51 @@
 -- The first zero of a text, and keys by their texts. Assumes nothing.
-use Rattle.std.proofs.Common.{◌≡◌, ℕ, zero, suc, ◌<◌, ◌≤◌, false, eqb, ◌⊎◌, List, [], ◌∷◌, length, get_or, take, replicate, Some, None, sym, refl, ap, ◌∙◌, inl, inr, arith, length-take-le, get_or-take}
+use Rattle.std.proofs.Common.{◌≡◌, ℕ, zero, suc, ◌+◌, ◌-◌, ◌<◌, ◌≤◌, ◌==◌, ◌⊎◌, List, [], ◌∷◌, ◌++◌, length, get_or, drop, replicate, Option, Some, None, sym, refl, ap, ◌∙◌, inl, inr, arith, length-take-le, get_or-take}
+use Rattle.std.specs.List.{position}
+use Rattle.std.specs.Option.{option_map}
 use mathlib.Core.HLevel.{is_prop→PathP, Π_prop}
 use native.Mathlib.Bridge.{le_prop}
 use native.Mathlib.Nat.{ℕ_set}
-use Rattle.std.proofs.lemmas.List.{ext_get_or}
+use Rattle.std.proofs.lemmas.List.{ext_get_or, get_or_append_left, get_or-append_right, get_or-drop}
 use Rattle.std.proofs.lemmas.Bool.{cases_lt}
 use Rattle.std.proofs.lemmas.Bool.Decides.{nat_tests}
-use Rattle.terms.specs.Keys.{first_zero, key_fault, text_of}
+use Rattle.std.proofs.lemmas.Grind.{common_steps}
+use Rattle.terms.specs.Keys.{first_zero, text_of}
 use Rattle.terms.specs.declared.key.Term.{Term}
 
-not-zero : (b : ℕ) → 0 < b → eqb b 0 ≡ false
-not-zero b h = grind (arith, nat_tests)
+pub zero-position : (xs : List ℕ) → position (λ b. b == 0) xs ≡ first_zero xs
+zero-position [] = refl
+zero-position (x ∷ xs) = let ih = zero-position xs in grind (arith, nat_tests)
 
-pub first-zero : (xs : List ℕ) (i : ℕ) → ((k : ℕ) → k < i → 0 < get_or xs k 0) → i < length xs → get_or xs i 0 ≡ 0 → first_zero xs ≡ Some i
-first-zero [] i h l e = absurd (omega arith)
-first-zero (x ∷ xs) zero h l e = rw e
-first-zero (x ∷ xs) (suc i) h l e =
-    let ih = first-zero xs i (λ k j. h (suc k) (omega arith)) (omega arith) e in
-    rw (not-zero x (h 0 (omega arith)), ih)
+inner : (o : Option ℕ) → option_map suc o ≡ None → o ≡ None
+inner None e = refl
+inner (Some n) e = cc
 
-pub no_zero : (xs : List ℕ) → ((k : ℕ) → k < length xs → 0 < get_or xs k 0) → first_zero xs ≡ None
-no_zero [] h = refl
-no_zero (x ∷ xs) h =
-    let ih = no_zero xs (λ k j. h (suc k) (omega arith)) in
-    rw (not-zero x (h 0 (omega arith)), ih)
+pub no_zero : (xs : List ℕ) → first_zero xs ≡ None → (k : ℕ) → k < length xs → 0 < get_or xs k 0
+no_zero [] e k h = absurd (omega arith)
+no_zero (x ∷ xs) e zero h = grind (arith, nat_tests)
+no_zero (x ∷ xs) e (suc k) h = let i : first_zero xs ≡ None = grind (arith, nat_tests, inner) in no_zero xs i k (omega arith)
 
-pub zeros : (n k : ℕ) → ◌≡◌ {A = ℕ} (get_or (replicate n 0) k 0) 0
+zeros : (n k : ℕ) → ◌≡◌ {A = ℕ} (get_or (replicate n 0) k 0) 0
 zeros zero k = refl
 zeros (suc n) zero = refl
 zeros (suc n) (suc k) = zeros n k
 
-pub copied : (bytes text : List ℕ) → length text ≤ length bytes → ((k : ℕ) → k < length text → get_or bytes k 0 ≡ get_or text k 0) → take (length text) bytes ≡ text
-copied bytes text l h =
-    let m = length-take-le (length text) bytes l in
-    ext_get_or 0 (take (length text) bytes) text m (λ k j. let i : k < length text = omega arith in get_or-take (length text) bytes k 0 i ∙ h k i)
+-- a text with zeros behind it
+module _ (xs : List ℕ) (short : length xs ≤ 32) where
+  abbrev pub filled : List ℕ
+  filled = xs ++ drop (length xs) (replicate 32 0)
 
-pub no-fault : (text : List ℕ) → 1 ≤ length text → length text ≤ 32 → first_zero text ≡ None → key_fault text ≡ None
-no-fault text l h e = rw e (grind (arith, nat_tests))
+  pub filled-long : length filled ≡ 32
+  filled-long = grind (arith, common_steps)
+
+  pub filled-front : (k : ℕ) → k < length xs → get_or filled k 0 ≡ get_or xs k 0
+  filled-front k h = get_or_append_left xs (drop (length xs) (replicate 32 0)) 0 k h
+
+  pub filled-back : (k : ℕ) → length xs ≤ k → get_or filled k 0 ≡ 0
+  filled-back k h =
+      get_or-append_right xs (drop (length xs) (replicate 32 0)) (length xs) k 0 refl h
+      ∙ get_or-drop (length xs) (replicate 32 0) (k - length xs) 0
+      ∙ zeros 32 (length xs + (k - length xs))
 
 -- a key is its bytes and its length
 same_parts : (s t : Term) → s.bytes ≡ t.bytes → s.len ≡ t.len → s ≡ t

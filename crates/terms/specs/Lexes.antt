@@ -8,8 +8,9 @@ use Rattle.std.proofs.lemmas.List.FromFn.{fill_by_all}
 use Rattle.std.proofs.lemmas.List.{drop_all, drop-drop, take-append-drop, length-take, length-drop, get_or-take, get_or-drop}
 use Rattle.std.proofs.lemmas.Bool.{cases_order}
 use Rattle.std.proofs.lemmas.Bool.Decides.{nat_tests}
-use Rattle.std.specs.List.{range_with_len, AllByRecursion}
-use Rattle.std.specs.Ordering.{is_le, ordering_reverse}
+use Rattle.std.specs.List.{concat, range_with_len, AllByRecursion}
+use Rattle.std.specs.Simd.{first_chunks}
+use Rattle.std.specs.Ordering.{is_le, nat_cmp, ordering_reverse, ordering_then}
 use Rattle.terms.specs.Order.{text_order, big_endian}
 
 pub text-exchange : (xs ys : List ℕ) → text_order ys xs ≡ ordering_reverse (text_order xs ys)
@@ -116,11 +117,35 @@ word-order (x ∷ xs) (y ∷ ys) cs ds e h k =
     ∙ heads-of-words x y (256 ^ length xs) (big_endian xs) (big_endian ys) _ (big-below xs h.1) (subst (λ (n : ℕ). big_endian ys < 256 ^ n) (sym l) (big-below ys k.1))
     ∙ ap (λ (n : ℕ). by_heads (x * 256 ^ length xs + big_endian xs) (y * 256 ^ n + big_endian ys) (text_order cs ds)) l
 
--- r is the word of the eight bytes from `at` on
-abbrev pub Word : List ℕ → ℕ → ℕ → Type 0
-Word bytes at r = (r ≡ big_endian (take 8 (drop at bytes))) × AllByRecursion (λ b. b < 256) (take 8 (drop at bytes))
+-- r is the word of these eight bytes
+pub record Word (bytes : List ℕ) (r : ℕ) : Type 0 where
+  pub value : r ≡ big_endian bytes
+  pub eight : length bytes ≡ 8
+  pub fits : AllByRecursion (λ b. b < 256) bytes
 
-module _ (a b : List ℕ) (at x y : ℕ) (ha : at + 8 ≤ length a) (hb : at + 8 ≤ length b) (wa : Word a at x) (wb : Word b at y) where
+heads-then : (x y : ℕ) (o : Ordering) → by_heads x y o ≡ ordering_then (nat_cmp x y) o
+heads-then x y o = grind (arith, nat_tests)
+
+-- the first words decide, or where they are the same what stands behind them
+pub words-decide : (a b cs ds : List ℕ) (x y : ℕ) → Word a x → Word b y → text_order (a ++ cs) (b ++ ds) ≡ ordering_then (nat_cmp x y) (text_order cs ds)
+words-decide a b cs ds x y v w =
+    word-order a b cs ds (v.eight ∙ sym w.eight) v.fits w.fits
+    ∙ sym (ap₂ (λ (m n : ℕ). by_heads m n (text_order cs ds)) v.value w.value)
+    ∙ heads-then x y (text_order cs ds)
+
+-- a list in words of eight bytes
+pub words-joined : (k : ℕ) (xs : List ℕ) → length xs ≡ 8 * k → concat (first_chunks 8 k xs) ≡ xs
+words-joined zero [] e = refl
+words-joined zero (x ∷ xs) e = absurd (omega arith)
+words-joined (suc k) xs e =
+    ap (λ (l : List ℕ). take 8 xs ++ l) (words-joined k (drop 8 xs) (omega (arith, length-drop 8 xs)))
+    ∙ take-append-drop 8 xs
+
+-- r is the word of the eight bytes from `at` on
+abbrev pub WordAt : List ℕ → ℕ → ℕ → Type 0
+WordAt bytes at r = (r ≡ big_endian (take 8 (drop at bytes))) × AllByRecursion (λ b. b < 256) (take 8 (drop at bytes))
+
+module _ (a b : List ℕ) (at x y : ℕ) (ha : at + 8 ≤ length a) (hb : at + 8 ≤ length b) (wa : WordAt a at x) (wb : WordAt b at y) where
   split : (xs : List ℕ) → take 8 (drop at xs) ++ drop (at + 8) xs ≡ drop at xs
   split xs = ap (λ (l : List ℕ). take 8 (drop at xs) ++ l) (sym (drop-drop 8 at xs)) ∙ take-append-drop 8 (drop at xs)
 

@@ -2,5 +2,4 @@ pub mod Keys
 pub mod Order
 pub mod Unions
 pub mod Ors
-pub mod MarksPayloadLemmas
 pub mod Lexes

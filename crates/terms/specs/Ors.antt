@@ -1,33 +1,8 @@
--- `or` is associative: by the binary digits.
-use Rattle.std.specs.Prelude.{◌≡◌, ℕ, zero, suc, ◌+◌, ◌*◌, ◌/◌, ◌%◌, ◌<◌, bit_or, refl}
-use Rattle.std.proofs.Common.{sym, ap, ap₂, ◌∙◌, div-add-mod', mod-lt, zero-lt-suc, arith}
-use Rattle.std.proofs.Math.Arith.{bin_ind}
-use Rattle.std.proofs.lemmas.Nat.{or_shr, or_mod}
-
-two_pos : zero < 2
-two_pos = zero-lt-suc 1
-
-by_digits : {a b : ℕ} → a / 2 ≡ b / 2 → a % 2 ≡ b % 2 → a ≡ b
-by_digits {a} {b} hi lo = sym (div-add-mod' a 2) ∙ ap₂ (λ (x y : ℕ). x * 2 + y) hi lo ∙ div-add-mod' b 2
-
-not_digit : {A : Type 0} {x : ℕ} → suc (suc x) < 2 → A
-not_digit h = absurd (omega arith)
-
-digit_assoc : (x y z : ℕ) → x < 2 → y < 2 → z < 2 → bit_or (bit_or x y) z ≡ bit_or x (bit_or y z)
-digit_assoc zero y z hx hy hz = refl
-digit_assoc (suc zero) zero z hx hy hz = refl
-digit_assoc (suc zero) (suc zero) zero hx hy hz = refl
-digit_assoc (suc zero) (suc zero) (suc zero) hx hy hz = refl
-digit_assoc (suc zero) (suc zero) (suc (suc z)) hx hy hz = not_digit hz
-digit_assoc (suc zero) (suc (suc y)) z hx hy hz = not_digit hy
-digit_assoc (suc (suc x)) y z hx hy hz = not_digit hx
+-- `or` is associative: bit by bit.
+use Rattle.std.specs.Prelude.{◌≡◌, ℕ, bit_or}
+use Rattle.std.proofs.Common.{arith}
+use Rattle.std.proofs.lemmas.Nat.Bits.{bit_at_or, same_from_bits}
 
 pub or_assoc : (a b c : ℕ) → bit_or (bit_or a b) c ≡ bit_or a (bit_or b c)
-or_assoc =
-    bin_ind (λ (n : ℕ). (b c : ℕ) → bit_or (bit_or n b) c ≡ bit_or n (bit_or b c)) (λ b c. refl)
-    (λ n ih b c. by_digits
-    (or_shr (bit_or n b) c 1 ∙ ap (λ (x : ℕ). bit_or x (c / 2)) (or_shr n b 1) ∙ ih (b / 2) (c / 2)
-    ∙ sym (or_shr n (bit_or b c) 1 ∙ ap (bit_or (n / 2)) (or_shr b c 1)))
-    (or_mod (bit_or n b) c 1 ∙ ap (λ (x : ℕ). bit_or x (c % 2)) (or_mod n b 1)
-    ∙ digit_assoc (n % 2) (b % 2) (c % 2) (mod-lt n two_pos) (mod-lt b two_pos) (mod-lt c two_pos)
-    ∙ sym (or_mod n (bit_or b c) 1 ∙ ap (bit_or (n % 2)) (or_mod b c 1))))
+or_assoc a b c =
+    same_from_bits _ _ (λ i. omega (arith, bit_at_or (bit_or a b) c i, bit_at_or a b i, bit_at_or a (bit_or b c) i, bit_at_or b c i))

@@ -1,15 +1,13 @@
 // Marks of an entry.
-ghost use Rattle.terms.specs.Unions.{no_marks, union_of_marks};
-ghost use Rattle.std.proofs.Common.{ap};
-ghost use Rattle.std.specs.Prelude.{refl};
+ghost use Rattle.std.specs.Prelude.{◌≡◌, refl};
+ghost use Rattle.terms.specs.Unions.{no_marks, union_of_marks, has};
 ghost use Rattle.std.proofs.lemmas.Nat.{or_comm};
 ghost use Rattle.terms.specs.Ors.{or_assoc};
-ghost use Rattle.terms.specs.MarksPayloadLemmas.{marks};
 
 use orders::Payload;
 
 // A set of 32 bits.
-#[derive(Clone, Copy, PartialEq, Eq, Debug)]
+#[derive(Clone, Copy, PartialEq, Eq, Default, Debug)]
 pub struct Marks {
     pub bits: u32,
 }
@@ -23,6 +21,13 @@ impl Marks {
 
     // The term is preferred to others of its meaning.
     pub const PREFERRED: u32 = 4;
+
+    // Whether the set has a bit, or one of several.
+    pub fn has(self, bit: u32) -> bool
+        ensures { result ≡ has self bit }
+    {
+        self.bits & bit != 0
+    }
 }
 
 // Union, with the empty set neutral.
@@ -32,8 +37,8 @@ impl Payload for Marks {
     ghost joined = { union_of_marks };
 
     ghost lawful = { record {
-      assoc = λ a b c. ap marks (or_assoc a.bits b.bits c.bits);
-      comm = λ a b. ap marks (or_comm a.bits b.bits);
+      assoc = λ a b c i. record { bits = or_assoc a.bits b.bits c.bits i };
+      comm = λ a b i. record { bits = or_comm a.bits b.bits i };
       unit = λ a. refl;
     } };
 

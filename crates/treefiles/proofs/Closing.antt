@@ -1,10 +1,10 @@
 -- What the items of a file that is read to its end look like. Assumes nothing.
-use Rattle.std.proofs.Common.{◌≡◌, ℕ, zero, suc, ◌+◌, ◌*◌, ◌/◌, ◌%◌, ◌<◌, ◌≤◌, Bool, true, false, cond, eqb, leb, ◌⊎◌, List, [], ◌∷◌, ◌++◌, length, get_or, take, drop, Some, None, Ok, Err, Option, Result, sym, refl, ap, ◌∙◌, subst, ap₂, inl, inr, arith, length-drop, take-append-drop, length-take, length-take-le, get_or-drop, get_or-take}
-use Rattle.std.proofs.lemmas.List.{drop_all, get_or_past}
+use Rattle.std.proofs.Common.{◌≡◌, ℕ, zero, suc, ◌+◌, ◌*◌, ◌/◌, ◌%◌, ◌<◌, ◌≤◌, Bool, true, false, cond, eqb, leb, ◌⊎◌, List, [], ◌∷◌, ◌++◌, length, get_or, take, drop, Some, None, Ok, Err, Option, Result, sym, refl, ap, ◌∙◌, subst, ap₂, inl, inr, arith, length-drop, take-append-drop, length-take-le}
+use Rattle.std.proofs.lemmas.List.{drop_all}
+use Rattle.std.proofs.lemmas.List.Elements.{All-take, All-drop}
+use Rattle.std.specs.List.{All}
 use Rattle.std.proofs.lemmas.Bool.Decides.{nat_tests}
-use Rattle.std.proofs.lemmas.Bool.{cases_eq, cases_lt, eq-eqb, ne_eqb, eqb-true, leb-true}
-use Rattle.faults.specs.Refusals.{fault, with_second}
-use Rattle.faults.specs.declared.Reason.TheVariants.{FieldIncomplete, FieldNotAllowed}
+use Rattle.std.proofs.lemmas.Bool.{cases_eq, eq-eqb, ne_eqb, eqb-true, leb-true}
 use Rattle.faults.specs.declared.Fault.{Fault}
 use Rattle.terms.specs.Keys.{key_fault}
 use Rattle.treefiles.specs.Format.{TermEntry, field, list_field, entry_field, closing_field, four_bytes}
@@ -61,18 +61,11 @@ abbrev pub item_fields : ℕ → List Item → List ℕ
 item_fields count [] = []
 item_fields count (i ∷ is) = item_field count i ++ item_fields (count + entries_in i) is
 
+abbrev pub IsByte : ℕ → Type 0
+IsByte b = b < 256
+
 abbrev pub Bytes : List ℕ → Type 0
-Bytes bs = (k : ℕ) → get_or bs k 0 < 256
-
-bytes_take : (bs : List ℕ) (n : ℕ) → Bytes bs → Bytes (take n bs)
-bytes_take bs n h k =
-    elim (cases_lt k n) [
-      | inl l ↦ subst (λ (b : ℕ). b < 256) (sym (get_or-take n bs k 0 l)) (h k)
-      | inr l ↦ subst (λ (b : ℕ). b < 256) (sym (get_or_past (take n bs) k 0 (let m = length-take n bs in omega arith))) (omega arith)
-    ]
-
-pub bytes_drop : (bs : List ℕ) (n : ℕ) → Bytes bs → Bytes (drop n bs)
-bytes_drop bs n h k = subst (λ (b : ℕ). b < 256) (sym (get_or-drop n bs k 0)) (h (n + k))
+Bytes bs = All IsByte bs
 
 -- what is known of a field that says an item
 pub record Taken (stage : Stage) (count tag : ℕ) (body : List ℕ) (i : Item) : Type 0 where
@@ -93,17 +86,14 @@ tag_is tag =
       ]
     ]
 
-pub not-ok : {X : Type 0} (f : Fault) (x : X) → Err f ≡ Ok x → ⊥
-not-ok f x e = let z : ◌≡◌ {A = ℕ} 0 1 = cc in omega arith
-
 -- a test that a granted answer has passed
 pub passed : {X : Type 0} (b : Bool) (r : Result X Fault) (f : Fault) (x : X) → cond b r (Err f) ≡ Ok x → (b ≡ true) × (r ≡ Ok x)
 passed true r f x e = (refl, e)
-passed false r f x e = absurd (not-ok f x e)
+passed false r f x e = absurd (cc)
 
 keyed-passed : (at : ℕ) (e : TermEntry) (o : Option Fault) (i : Item) → keyed at e o ≡ Ok i → (o ≡ None) × (an_entry e ≡ i)
 keyed-passed at e None i p = (refl, cc)
-keyed-passed at e (Some f) i p = absurd (not-ok (with_second f at) i p)
+keyed-passed at e (Some f) i p = absurd (cc)
 
 one_byte : (body : List ℕ) → length body ≡ 1 → body ≡ get_or body 0 0 ∷ []
 one_byte [] e = absurd (omega arith)
@@ -125,7 +115,7 @@ number-front [] h k = absurd (omega arith)
 number-front (a ∷ []) h k = absurd (omega arith)
 number-front (a ∷ (b ∷ [])) h k = absurd (omega arith)
 number-front (a ∷ (b ∷ (c ∷ []))) h k = absurd (omega arith)
-number-front (a ∷ (b ∷ (c ∷ (d ∷ rest)))) h k = ap (λ (l : List ℕ). l ++ rest) (four_bytes-back a b c d (k 1) (k 2) (k 3))
+number-front (a ∷ (b ∷ (c ∷ (d ∷ rest)))) h k = ap (λ (l : List ℕ). l ++ rest) (four_bytes-back a b c d (k 1 0 (omega arith)) (k 2 0 (omega arith)) (k 3 0 (omega arith)))
 
 pub number-four : (n : ℕ) (rest : List ℕ) → number (four_bytes n ++ rest) ≡ n
 number-four n rest = omega arith
@@ -152,7 +142,7 @@ taken-list stage count at tag body i t e =
     root Opening a h = eqb-true (get_or body 0 0) 0 h
     root ListRead a h = tt
     root EntryRead a h = tt
-    root Closing a h = let z : ◌≡◌ {A = ℕ} 0 1 = cc in absurd (omega arith)
+    root Closing a h = absurd (cc)
 
 taken-entry : (stage : Stage) (count at tag : ℕ) (body : List ℕ) (i : Item) → tag ≡ 69 → said stage count at entries body ≡ Ok i → Taken stage count tag body i
 taken-entry stage count at tag body i t e =
@@ -168,10 +158,10 @@ taken-entry stage count at tag body i t e =
     })
   where
     key : (s : Stage) → allowed s entries ≡ true → key_fault (drop 4 body) ≡ None → Accepts (phase_of s) (an_entry (entry_in body))
-    key Opening a h = let z : ◌≡◌ {A = ℕ} 0 1 = cc in absurd (omega arith)
+    key Opening a h = absurd (cc)
     key ListRead a h = h
     key EntryRead a h = h
-    key Closing a h = let z : ◌≡◌ {A = ℕ} 0 1 = cc in absurd (omega arith)
+    key Closing a h = absurd (cc)
 
 taken-end : (stage : Stage) (count at tag : ℕ) (body : List ℕ) (i : Item) → tag ≡ 90 → said stage count at closes body ≡ Ok i → Taken stage count tag body i
 taken-end stage count at tag body i t e =
@@ -189,10 +179,10 @@ taken-end stage count at tag body i t e =
     })
   where
     within-lists : (s : Stage) → allowed s closes ≡ true → Accepts (phase_of s) the_end
-    within-lists Opening a = let z : ◌≡◌ {A = ℕ} 0 1 = cc in absurd (omega arith)
+    within-lists Opening a = absurd (cc)
     within-lists ListRead a = tt
     within-lists EntryRead a = tt
-    within-lists Closing a = let z : ◌≡◌ {A = ℕ} 0 1 = cc in absurd (omega arith)
+    within-lists Closing a = absurd (cc)
 
 pub taken : (stage : Stage) (count at tag : ℕ) (body : List ℕ) (i : Item) → said stage count at (tag_of tag) body ≡ Ok i → Taken stage count tag body i
 taken stage count at tag body i e =
@@ -205,16 +195,16 @@ taken stage count at tag body i e =
     ]
   where
     unknown : (s : Stage) → said s count at other body ≡ Ok i → ⊥
-    unknown Opening h = not-ok (fault FieldNotAllowed at 0) i h
-    unknown ListRead h = not-ok (fault FieldNotAllowed at 0) i h
-    unknown EntryRead h = not-ok (fault FieldNotAllowed at 0) i h
-    unknown Closing h = not-ok (fault FieldNotAllowed at 0) i h
+    unknown Opening h = cc
+    unknown ListRead h = cc
+    unknown EntryRead h = cc
+    unknown Closing h = cc
 
 -- a field that the bytes hold whole is their front
 field-whole : (bs : List ℕ) (tag : ℕ) (body : List ℕ) → first_field bs ≡ Some (tag, body) → Bytes bs → Bytes body × (bs ≡ field tag body ++ drop (3 + length body) bs)
-field-whole [] tag body e k = let z : ◌≡◌ {A = ℕ} 0 1 = cc in absurd (omega arith)
-field-whole (t ∷ []) tag body e k = let z : ◌≡◌ {A = ℕ} 0 1 = cc in absurd (omega arith)
-field-whole (t ∷ (h ∷ [])) tag body e k = let z : ◌≡◌ {A = ℕ} 0 1 = cc in absurd (omega arith)
+field-whole [] tag body e k = absurd (cc)
+field-whole (t ∷ []) tag body e k = absurd (cc)
+field-whole (t ∷ (h ∷ [])) tag body e k = absurd (cc)
 field-whole (t ∷ (h ∷ (l ∷ rest))) tag body e k = go (leb (h * 256 + l) (length rest)) refl e
   where
     go : (b : Bool) → leb (h * 256 + l) (length rest) ≡ b → cond {A = Option (ℕ × List ℕ)} b (Some (t, take (h * 256 + l) rest)) None ≡ Some (tag, body)
@@ -226,15 +216,15 @@ field-whole (t ∷ (h ∷ (l ∷ rest))) tag body e k = go (leb (h * 256 + l) (l
         let same_tag : t ≡ tag = ap (λ (x : ℕ × List ℕ). x.0) pair in
         let same_body : take n rest ≡ body = ap (λ (x : ℕ × List ℕ). x.1) pair in
         let long : length body ≡ n = ap length (sym same_body) ∙ length-take-le n rest within in
-        let low = k 2 in
+        let low = k 2 0 (omega arith) in
         let high : length body / 256 ≡ h = omega arith in
         let less : length body % 256 ≡ l = omega arith in
         let three : 3 + length body ≡ suc (suc (suc n)) = omega arith in
         let parts : rest ≡ body ++ drop n rest = sym (take-append-drop n rest) ∙ ap (λ (m : List ℕ). m ++ drop n rest) same_body in (
-          subst Bytes same_body (λ j. bytes_take rest n (λ i. k (suc (suc (suc i)))) j),
+          subst Bytes same_body (All-take IsByte n rest (All-drop IsByte 3 (t ∷ (h ∷ (l ∷ rest))) k)),
           rw (three, high, less, ← same_tag) (ap (λ (m : List ℕ). t ∷ (h ∷ (l ∷ m))) parts),
         )
-    go false q f = let z : ◌≡◌ {A = ℕ} 0 1 = cc in absurd (omega arith)
+    go false q f = absurd (cc)
 
 -- what is known where the next field says an item
 pub record Next (stage : Stage) (count : ℕ) (bytes : List ℕ) (i : Item) : Type 0 where
@@ -243,10 +233,10 @@ pub record Next (stage : Stage) (count : ℕ) (bytes : List ℕ) (i : Item) : Ty
 
 some_item-ok : (r : Result Item Fault) (i : Item) → some_item r ≡ Ok (Some i) → r ≡ Ok i
 some_item-ok (Ok j) i e = cc
-some_item-ok (Err f) i e = absurd (not-ok f (Some i) e)
+some_item-ok (Err f) i e = absurd (cc)
 
 said-item : (stage : Stage) (count at : ℕ) (bytes : List ℕ) (o : Option (ℕ × List ℕ)) (i : Item) → first_field bytes ≡ o → said_of stage count at o ≡ Ok (Some i) → Next stage count bytes i
-said-item stage count at bytes None i f e = absurd (not-ok (fault FieldIncomplete at 0) (Some i) e)
+said-item stage count at bytes None i f e = absurd (cc)
 said-item stage count at bytes (Some (tag, body)) i f e =
     let t = taken stage count at tag body i (some_item-ok _ i e) in
     record {
@@ -260,16 +250,16 @@ pub next-some : (stage : Stage) (count at : ℕ) (bytes : List ℕ) (i : Item) �
 next-some stage count at bytes i e = go (ended stage bytes) e
   where
     go : (b : Bool) → cond b (Ok None) (said_of stage count at (first_field bytes)) ≡ Ok (Some i) → Next stage count bytes i
-    go true h = let z : ◌≡◌ {A = ℕ} 0 1 = cc in absurd (omega arith)
+    go true h = absurd (cc)
     go false h = said-item stage count at bytes (first_field bytes) i refl h
 
 said-none : (stage : Stage) (count at : ℕ) (o : Option (ℕ × List ℕ)) → said_of stage count at o ≡ Ok None → ⊥
-said-none stage count at None e = not-ok (fault FieldIncomplete at 0) None e
+said-none stage count at None e = cc
 said-none stage count at (Some f) e = go (said stage count at (tag_of f.0) f.1) e
   where
     go : (r : Result Item Fault) → some_item r ≡ Ok None → ⊥
-    go (Ok j) h = let z : ◌≡◌ {A = ℕ} 0 1 = cc in omega arith
-    go (Err g) h = not-ok g None h
+    go (Ok j) h = cc
+    go (Err g) h = cc
 
 pub next-none : (stage : Stage) (count at : ℕ) (bytes : List ℕ) → next_item stage count at bytes ≡ Ok None → (stage ≡ Closing) × (bytes ≡ [])
 next-none Opening count at bytes e = absurd (said-none Opening count at (first_field bytes) e)
@@ -295,12 +285,12 @@ module _ (k : ℕ) (stage : Stage) (count at : ℕ) (bytes : List ℕ) (is : Lis
       let same : i ∷ js ≡ is = cc in
       subst (Whole stage count bytes) same (record {
         closed = (n.accepts, subst (λ (p : Phase). Closes p js) (phase-after i) w.closed);
-        spelled = λ b. n.front b ∙ ap (λ (m : List ℕ). item_field count i ++ m) (w.spelled (bytes_drop bytes (size_of i) b));
+        spelled = λ b. n.front b ∙ ap (λ (m : List ℕ). item_field count i ++ m) (w.spelled (All-drop IsByte (size_of i) bytes b));
       })
-  whole-on i h (Err f) q g = absurd (not-ok f is g)
+  whole-on i h (Err f) q g = absurd (cc)
 
   whole_by : (r : Result (Option Item) Fault) → next_item stage count at bytes ≡ r → follow (rest_of k count at bytes) r ≡ Ok is → Whole stage count bytes is
-  whole_by (Err f) h g = absurd (not-ok f is g)
+  whole_by (Err f) h g = absurd (cc)
   whole_by (Ok None) h g =
       let n = next-none stage count at bytes h in
       let none : [] ≡ is = cc in
@@ -311,7 +301,7 @@ module _ (k : ℕ) (stage : Stage) (count at : ℕ) (bytes : List ℕ) (is : Lis
   whole_by (Ok (Some i)) h g = whole-on i h (rest_of k count at bytes i) refl g
 
 pub read_whole : (fields : ℕ) (stage : Stage) (count at : ℕ) (bytes : List ℕ) (is : List Item) → items fields stage count at bytes ≡ Ok is → Whole stage count bytes is
-read_whole zero stage count at bytes is e = absurd (not-ok (fault FieldIncomplete at 0) is e)
+read_whole zero stage count at bytes is e = absurd (cc)
 read_whole (suc k) stage count at bytes is e =
     whole_by k stage count at bytes is (λ i js. read_whole k (stage_after i) (count + entries_in i) (at + size_of i) (drop (size_of i) bytes) js)
     (next_item stage count at bytes) refl e

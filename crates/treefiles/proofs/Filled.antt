@@ -1,5 +1,7 @@
 -- Memory as it is filled, item by item. Assumes nothing.
-use Rattle.std.proofs.Common.{◌≡◌, ℕ, zero, suc, ◌-◌, ◌^◌, ◌<◌, ◌≤◌, Bool, true, false, cond, eqb, List, [], ◌∷◌, ◌++◌, map, length, get_or, take, drop, set, Some, Ok, Err, Result, sym, refl, ap, ◌∙◌, subst, ap₂, append_assoc, append-nil, arith, length-append, take-append-drop, length-take-le}
+use Rattle.std.proofs.Common.{◌≡◌, ℕ, suc, ◌-◌, ◌^◌, ◌<◌, ◌≤◌, Bool, true, false, cond, eqb, List, [], ◌∷◌, ◌++◌, map, length, get_or, take, drop, set, Some, Ok, Err, Option, Result, sym, refl, ap, ◌∙◌, subst, ap₂, append_assoc, append-nil, arith, length-append, length-drop, drop-cons}
+use Rattle.std.proofs.lemmas.List.{length-map, map-append, set-append_left, set-append_right, get_or_append_left}
+use lib.Seq.{take-append_seam, drop-append_seam}
 use Rattle.faults.specs.declared.Fault.{Fault}
 use Rattle.orders.specs.declared.entry.Entry.{Entry}
 use Rattle.shelves.specs.declared.rows.ListRow.{ListRow}
@@ -12,50 +14,28 @@ use Rattle.treefiles.specs.Reader.{Item, a_list, an_entry, the_end, begins, file
 use Rattle.treefiles.specs.Steps.{Moved, Begun, Reads, item_read, counts_of}
 use Rattle.treefiles.specs.declared.item.Item.{Item as CodeItem}
 use Rattle.treefiles.specs.declared.item.Item.TheVariants.{List as ListItem, Entry as EntryItem, Closing as ClosingItem}
+use Rattle.treefiles.specs.declared.loaded.Loaded.{Loaded}
 use Rattle.treefiles.specs.declared.loader.Loader.{Loader}
-use Rattle.treefiles.proofs.Closing.{Closes, first, not-ok}
+use Rattle.treefiles.proofs.Closing.{Closes, first}
 use Rattle.treefiles.proofs.Gathering.{lists_among, entry_of, entries_among, lists-among-append, entries-among-append, lists-gathered, told}
-use Rattle.treefiles.proofs.Rows.{widened, widened-set, rows_from, rows_append, rows-of-tree, few-counted}
+use Rattle.treefiles.proofs.Rows.{rows_of, rows-list, rows-entry, rows-end, few-counted}
 use Rattle.treefiles.proofs.Runs.{Run, begun, begun-done, goes_on, done-one-more, file-closed}
 
--- one write at the end of the front
-module _ {X : Type 0} where
-  pub take-set : (n : ℕ) (xs : List X) (x : X) → n < length xs → take (suc n) (set xs n x) ≡ take n xs ++ (x ∷ [])
-  take-set n [] x h = absurd (omega arith)
-  take-set zero (y ∷ ys) x h = refl
-  take-set (suc n) (y ∷ ys) x h = ap (λ (l : List X). y ∷ l) (take-set n ys x (omega arith))
-
-  pub drop-set : (n : ℕ) (xs : List X) (x : X) → drop (suc n) (set xs n x) ≡ drop (suc n) xs
-  drop-set n [] x = refl
-  drop-set zero (y ∷ ys) x = refl
-  drop-set (suc n) (y ∷ ys) x = drop-set n ys x
-
-  -- a write within the front
-  pub take-set-in : (n : ℕ) (xs : List X) (x : X) → take (suc n) (set xs n x) ≡ set (take (suc n) xs) n x
-  take-set-in n [] x = refl
-  take-set-in zero (y ∷ ys) x = refl
-  take-set-in (suc n) (y ∷ ys) x = ap (λ (l : List X). y ∷ l) (take-set-in n ys x)
-
-  pub get_or-front : (n : ℕ) (xs : List X) (d : X) → get_or (take (suc n) xs) n d ≡ get_or xs n d
-  get_or-front n [] d = refl
-  get_or-front zero (y ∷ ys) d = refl
-  get_or-front (suc n) (y ∷ ys) d = get_or-front n ys d
-
-  pub drop_more_same : (n : ℕ) (xs ys : List X) → drop n xs ≡ drop n ys → drop (suc n) xs ≡ drop (suc n) ys
-  drop_more_same n xs ys e = drop-one n xs ∙ ap (drop 1) e ∙ sym (drop-one n ys)
-    where
-      drop-one : (m : ℕ) (zs : List X) → drop (suc m) zs ≡ drop 1 (drop m zs)
-      drop-one zero zs = refl
-      drop-one (suc m) [] = refl
-      drop-one (suc m) (z ∷ zs) = drop-one m zs
+-- a write behind the front
+at-end : {X : Type 0} (front xs : List X) (n : ℕ) (x : X) → length front ≡ n → n < length xs → set (front ++ drop n xs) n x ≡ (front ++ (x ∷ [])) ++ drop (suc n) xs
+at-end {X = X} front xs n x e h =
+    let none : n - n ≡ 0 = omega arith in
+    set-append_right front (drop n xs) n n x e (omega arith)
+    ∙ ap₂ (λ (k : ℕ) (ys : List X). front ++ set ys k x) none (drop-cons xs n x h)
+    ∙ sym (append_assoc front (x ∷ []) (drop (suc n) xs))
 
 -- the memories hold the items that were read, and behind them what they held before
 pub record Fills (file : List ℕ) (l : Loader) (lists lists' : List ListRow) (entries entries' : List (Entry Term Marks)) : Type 0 where
   pub run : Run file l
-  pub rows : take l.lists lists' ≡ rows_from [] run.done
-  pub rows_behind : drop l.lists lists' ≡ drop l.lists lists
-  pub terms : map entry_read (take l.entries entries') ≡ entries_among run.done
-  pub terms_behind : drop l.entries entries' ≡ drop l.entries entries
+  pub rows : lists' ≡ rows_of run.done ++ drop l.loaded.lists lists
+  pub front : List (Entry Term Marks)
+  pub terms : map entry_read front ≡ entries_among run.done
+  pub held : entries' ≡ front ++ drop l.loaded.entries entries
 
 -- the items of a file that holds a tree
 pub tree-items : (file : List ℕ) (tree : List TermList) → read file ≡ Ok tree → (all : List Item) × (file_items file ≡ Ok all) × (tree_of all ≡ tree)
@@ -63,12 +43,12 @@ tree-items file tree e = go (file_items file) refl e
   where
     go : (r : Result (List Item) Fault) → file_items file ≡ r → tree_read r ≡ Ok tree → (all : List Item) × (file_items file ≡ Ok all) × (tree_of all ≡ tree)
     go (Ok all) h f = (all, h, cc)
-    go (Err g) h f = absurd (not-ok g tree f)
+    go (Err g) h f = absurd (cc)
 
 -- what was read is the front of all items
 rest-items : (done all : List Item) (r : Result (List Item) Fault) → Ok all ≡ after done r → (rest : List Item) × (all ≡ done ++ rest)
 rest-items done all (Ok rest) e = (rest, cc)
-rest-items done all (Err f) e = absurd (not-ok f all (sym e))
+rest-items done all (Err f) e = absurd (cc)
 
 first-is-list : (done : List Item) (e : TermEntry) (rest : List Item) → Closes first (done ++ (an_entry e ∷ rest)) → 1 ≤ lists_among done
 first-is-list [] e rest c = absurd c.0
@@ -90,7 +70,7 @@ module _ (file : List ℕ) (nl ne : ℕ) (room : Room file nl ne) where
     front-of-all : (rest : List Item) × (all ≡ run.done ++ rest)
     front-of-all = rest-items run.done all _ (sym found.1 ∙ run.same)
 
-    pub few-lists : l.lists ≤ nl
+    pub few-lists : l.loaded.lists ≤ nl
     few-lists =
         let f = front-of-all in
         let a = ap lists_among f.1 ∙ lists-among-append run.done f.0 in
@@ -99,7 +79,7 @@ module _ (file : List ℕ) (nl ne : ℕ) (room : Room file nl ne) where
         let d = run.lists in
         omega (arith, a, b)
 
-    pub few-entries : l.entries ≤ ne
+    pub few-entries : l.loaded.entries ≤ ne
     few-entries =
         let f = front-of-all in
         let a = ap length (ap entries_among f.1 ∙ entries-among-append run.done f.0) ∙ length-append (entries_among run.done) (entries_among f.0) in
@@ -115,145 +95,151 @@ module _ (file : List ℕ) (nl ne : ℕ) (room : Room file nl ne) where
       let same : all ≡ done ++ (an_entry e ∷ f.0) = f.1 ∙ ap (λ (is : List Item). is ++ f.0) h ∙ append_assoc done (an_entry e ∷ []) f.0 in
       first-is-list done e f.0 (subst (Closes first) same closes-all)
 
-map-append : {X Y : Type 0} (f : X → Y) (xs ys : List X) → map f (xs ++ ys) ≡ map f xs ++ map f ys
-map-append f [] ys = refl
-map-append f (x ∷ xs) ys = ap (λ l. f x ∷ l) (map-append f xs ys)
-
-pred_of : (n : ℕ) → 1 ≤ n → (k : ℕ) × (n ≡ suc k)
-pred_of zero h = absurd (omega arith)
-pred_of (suc k) h = (k, refl)
-
 module _ (file : List ℕ) (l : Loader) (lists lists' : List ListRow) (entries entries' : List (Entry Term Marks)) (f : Fills file l lists lists' entries entries')
-    (long_l : length lists' ≡ length lists) (long_e : length entries' ≡ length entries) (small : length file < 2 ^ 64)
-    (room : Room file (length lists) (length entries)) (m : Loader) (i : CodeItem) (reads : Reads l m (Ok (Some i))) where
-  abbrev next-run : Run file m
-  next-run = goes_on file l f.run m (Ok (Some i)) i refl reads
+    (small : length file < 2 ^ 64) (room : Room file (length lists) (length entries)) (m : Loader) where
+  abbrev rows : List ListRow
+  rows = rows_of f.run.done
 
-  done-is : next-run.done ≡ f.run.done ++ (item_read i ∷ [])
-  done-is = done-one-more file l f.run m i reads
+  rows-long : length rows ≡ l.loaded.lists
+  rows-long = length-map (tree_of f.run.done) list_row ∙ lists-gathered f.run.done ∙ sym f.run.lists
 
-  lists-fit : m.lists ≤ length lists'
-  lists-fit = let a = few-lists file (length lists) (length entries) room m next-run in omega arith
+  front-long : length f.front ≡ l.loaded.entries
+  front-long = sym (length-map f.front entry_read) ∙ ap length f.terms ∙ sym f.run.entries
 
-  entries_fit : m.entries ≤ length entries'
-  entries_fit = let a = few-entries file (length lists) (length entries) room m next-run in omega arith
+  -- the places are as many as before
+  same-lists : l.loaded.lists ≤ length lists → length lists' ≡ length lists
+  same-lists h =
+      let r = rows-long in
+      let a = ap length f.rows ∙ length-append rows (drop l.loaded.lists lists) in
+      let d = length-drop l.loaded.lists lists in
+      omega arith
 
-  -- the latest row, where an entry comes
-  latest : (e : Entry Term Marks) → i ≡ EntryItem e → (n : ℕ) × (l.lists ≡ suc n)
-  latest e h =
-      let d : next-run.done ≡ f.run.done ++ (an_entry (entry_read e) ∷ []) = done-is ∙ ap (λ (x : CodeItem). f.run.done ++ (item_read x ∷ [])) h in
-      let one = some-list file (length lists) (length entries) room m f.run.done (entry_read e) next-run d in
-      let a = f.run.lists in
-      pred_of l.lists (omega arith)
+  same-entries : l.loaded.entries ≤ length entries → length entries' ≡ length entries
+  same-entries h =
+      let r = front-long in
+      let a = ap length f.held ∙ length-append f.front (drop l.loaded.entries entries) in
+      let d = length-drop l.loaded.entries entries in
+      omega arith
 
-  rows_long : l.lists ≤ length lists' → length (rows_from [] f.run.done) ≡ l.lists
-  rows_long h = ap length (sym f.rows) ∙ length-take-le l.lists lists' h
+  lists-fit : Run file m → m.loaded.lists ≤ length lists
+  lists-fit = few-lists file (length lists) (length entries) room m
 
-  pub can_store : CanStore i (counts_of m) lists' entries'
-  can_store = go i refl reads.1
-    where
-      go : (j : CodeItem) → i ≡ j → Moved l m (item_read j) → CanStore j (counts_of m) lists' entries'
-      go (ListItem p) h v = let a = v.lists in (omega arith, lists-fit)
-      go (EntryItem e) h v =
-          let a = v.lists in
-          let b = v.entries in
-          let n = latest e h in
-          let c = n.1 in
-          let u = lists-fit in
-          let k : m.lists - 1 ≡ n.0 = omega arith in
-          let few = few-counted f.run.done n.0 (rows_long (omega arith) ∙ n.1) in
-          let at : get_or lists' (m.lists - 1) (row 0 0) ≡ get_or (rows_from [] f.run.done) n.0 (row 0 0) =
-          ap (λ (x : ℕ). get_or lists' x (row 0 0)) k ∙ sym (get_or-front n.0 lists' (row 0 0)) ∙ ap (λ (x : ℕ). get_or (take x lists') n.0 (row 0 0)) (sym n.1) ∙ ap (λ (rs : List ListRow). get_or rs n.0 (row 0 0)) f.rows in
-          let count = ap (λ (r : ListRow). r.count) at in
-          let w = l.few in
-          let within : l.at ≤ length file = subst (λ (g : List ℕ). l.at ≤ length g) f.run.of l.within in
-          let d = f.run.entries in
-          (omega arith, u, omega arith, entries_fit, omega arith)
-      go ClosingItem h v = tt
+  entries-fit : Run file m → m.loaded.entries ≤ length entries
+  entries-fit = few-entries file (length lists) (length entries) room m
 
-  pub stored : (lists'' : List ListRow) (entries'' : List (Entry Term Marks)) → Stores i (counts_of m) lists' lists'' entries' entries'' → Fills file m lists lists'' entries entries''
-  stored lists'' entries'' s = go i refl reads.1 s
-    where
-      none_more : (j : Item) → entry_of j ≡ [] → entries_among (f.run.done ++ (j ∷ [])) ≡ entries_among f.run.done
-      none_more j e = entries-among-append f.run.done (j ∷ []) ∙ ap (λ (x : List TermEntry). entries_among f.run.done ++ (x ++ [])) e ∙ append-nil _
+  more_terms : (done : List Item) (i : Item) → done ≡ f.run.done ++ (i ∷ []) → entries_among done ≡ entries_among f.run.done ++ entry_of i
+  more_terms done i d =
+      ap entries_among d ∙ entries-among-append f.run.done (i ∷ [])
+      ∙ ap (λ (es : List TermEntry). entries_among f.run.done ++ es) (append-nil (entry_of i))
 
-      same-terms : (k : ℕ) → k ≡ l.entries → (j : Item) → entry_of j ≡ [] → (es : List (Entry Term Marks)) → es ≡ entries' → map entry_read (take k es) ≡ entries_among (f.run.done ++ (j ∷ []))
-      same-terms k e j n es g = ap₂ (λ (x : ℕ) (y : List (Entry Term Marks)). map entry_read (take x y)) e g ∙ f.terms ∙ sym (none_more j n)
+  can_store-at : (i : CodeItem) (next : Run file m) → next.done ≡ f.run.done ++ (item_read i ∷ []) → Moved l m (item_read i) → CanStore i (counts_of m) lists' entries'
+  can_store-at (ListItem p) next d v =
+      let a = v.lists in
+      let fit = lists-fit next in
+      let n = same-lists (omega arith) in
+      (omega arith, omega arith)
+  can_store-at (EntryItem e) next d v =
+      let a = v.lists in
+      let b = v.entries in
+      let fit = lists-fit next in
+      let fit_e = entries-fit next in
+      let n = same-lists (omega arith) in
+      let n_e = same-entries (omega arith) in
+      let one = some-list file (length lists) (length entries) room m f.run.done (entry_read e) next d in
+      let c = f.run.lists in
+      let k = m.loaded.lists - 1 in
+      let long = rows-long in
+      let last : length rows ≡ suc k = omega arith in
+      let few = few-counted f.run.done k in
+      let count = ap (λ (r : ListRow). r.count) (ap (λ (rs : List ListRow). get_or rs k (row 0 0)) f.rows ∙ get_or_append_left rows (drop l.loaded.lists lists) (row 0 0) k (omega arith)) in
+      let w = l.few in
+      let within : l.at ≤ length file = subst (λ (g : List ℕ). l.at ≤ length g) f.run.of l.within in
+      let t = f.run.entries in
+      (omega arith, omega arith, omega arith, omega arith, omega arith)
+  can_store-at ClosingItem next d v = tt
 
-      same-behind : (k : ℕ) → k ≡ l.entries → (es : List (Entry Term Marks)) → es ≡ entries' → drop k es ≡ drop k entries
-      same-behind k e es g = ap₂ drop e g ∙ f.terms_behind ∙ ap (λ (x : ℕ). drop x entries) (sym e)
+  stored-at : (i : CodeItem) (next : Run file m) → next.done ≡ f.run.done ++ (item_read i ∷ []) → Moved l m (item_read i)
+      → (lists'' : List ListRow) (entries'' : List (Entry Term Marks)) → Stores i (counts_of m) lists' lists'' entries' entries'' → Fills file m lists lists'' entries entries''
+  stored-at (ListItem p) next d v lists'' entries'' t =
+      let a = v.lists in
+      let b = v.entries in
+      let fit = lists-fit next in
+      let up : m.loaded.lists ≡ suc l.loaded.lists = omega arith in
+      let at : m.loaded.lists - 1 ≡ l.loaded.lists = omega arith in
+      let same : l.loaded.entries ≡ m.loaded.entries = omega arith in
+      record {
+        run = next;
+        rows =
+            t.0 ∙ ap₂ (λ (rs : List ListRow) (k : ℕ). set rs k (row p 0)) f.rows at
+            ∙ at-end rows lists l.loaded.lists (row p 0) rows-long (omega arith)
+            ∙ ap₂ (λ (rs : List ListRow) (k : ℕ). rs ++ drop k lists) (sym (ap rows_of d ∙ rows-list f.run.done p)) (sym up);
+        front = f.front;
+        terms = f.terms ∙ sym (more_terms next.done (a_list p) d ∙ append-nil _);
+        held = t.1 ∙ f.held ∙ ap (λ (k : ℕ). f.front ++ drop k entries) same;
+      }
+  stored-at (EntryItem e) next d v lists'' entries'' t =
+      let a = v.lists in
+      let b = v.entries in
+      let fit = entries-fit next in
+      let one = some-list file (length lists) (length entries) room m f.run.done (entry_read e) next d in
+      let c = f.run.lists in
+      let long = rows-long in
+      let k = m.loaded.lists - 1 in
+      let same : l.loaded.lists ≡ m.loaded.lists = omega arith in
+      let last : length rows ≡ suc k = omega arith in
+      let up : m.loaded.entries ≡ suc l.loaded.entries = omega arith in
+      let at : m.loaded.entries - 1 ≡ l.loaded.entries = omega arith in
+      let behind = drop l.loaded.lists lists in
+      record {
+        run = next;
+        rows =
+            t.0 ∙ ap (λ (rs : List ListRow). set rs k (one_more (get_or rs k (row 0 0)))) f.rows
+            ∙ set-append_left rows behind k (one_more (get_or (rows ++ behind) k (row 0 0))) (omega arith)
+            ∙ ap (λ (r : ListRow). set rows k (one_more r) ++ behind) (get_or_append_left rows behind (row 0 0) k (omega arith))
+            ∙ ap₂ (λ (rs : List ListRow) (n : ℕ). rs ++ drop n lists) (sym (ap rows_of d ∙ rows-entry f.run.done (entry_read e) k last)) same;
+        front = f.front ++ (e ∷ []);
+        terms = map-append entry_read f.front (e ∷ []) ∙ ap (λ (es : List TermEntry). es ++ (entry_read e ∷ [])) f.terms ∙ sym (more_terms next.done (an_entry (entry_read e)) d);
+        held =
+            t.1 ∙ ap₂ (λ (es : List (Entry Term Marks)) (n : ℕ). set es n e) f.held at
+            ∙ at-end f.front entries l.loaded.entries e front-long (omega arith)
+            ∙ ap (λ (n : ℕ). (f.front ++ (e ∷ [])) ++ drop n entries) (sym up);
+      }
+  stored-at ClosingItem next d v lists'' entries'' t =
+      let a = v.lists in
+      let b = v.entries in
+      let same : l.loaded.lists ≡ m.loaded.lists = omega arith in
+      let same_e : l.loaded.entries ≡ m.loaded.entries = omega arith in
+      record {
+        run = next;
+        rows = t.0 ∙ f.rows ∙ ap₂ (λ (rs : List ListRow) (k : ℕ). rs ++ drop k lists) (sym (ap rows_of d ∙ rows-end f.run.done)) same;
+        front = f.front;
+        terms = f.terms ∙ sym (more_terms next.done the_end d ∙ append-nil _);
+        held = t.1 ∙ f.held ∙ ap (λ (k : ℕ). f.front ++ drop k entries) same_e;
+      }
 
-      go : (j : CodeItem) → i ≡ j → Moved l m (item_read j) → Stores j (counts_of m) lists' lists'' entries' entries'' → Fills file m lists lists'' entries entries''
-      go (ListItem p) h v t =
-          let a = v.lists in
-          let b = v.entries in
-          let up : m.lists ≡ suc l.lists = omega arith in
-          let at : m.lists - 1 ≡ l.lists = omega arith in
-          let fits = lists-fit in
-          let wrote : lists'' ≡ set lists' l.lists (row p 0) = t.0 ∙ ap (λ (k : ℕ). set lists' k (row p 0)) at in
-          let done : next-run.done ≡ f.run.done ++ (a_list p ∷ []) = done-is ∙ ap (λ (x : CodeItem). f.run.done ++ (item_read x ∷ [])) h in
-          record {
-            run = next-run;
-            rows = ap₂ take up wrote ∙ take-set l.lists lists' (row p 0) (omega arith) ∙ ap (λ (r : List ListRow). r ++ (row p 0 ∷ [])) f.rows ∙ sym (rows_append [] f.run.done (a_list p ∷ [])) ∙ ap (rows_from []) (sym done);
-            rows_behind = ap₂ drop up wrote ∙ drop-set l.lists lists' (row p 0) ∙ drop_more_same l.lists lists' lists f.rows_behind ∙ ap (λ (k : ℕ). drop k lists) (sym up);
-            terms = same-terms m.entries (omega arith) (a_list p) refl entries'' t.1 ∙ ap entries_among (sym done);
-            terms_behind = same-behind m.entries (omega arith) entries'' t.1;
-          }
-      go (EntryItem e) h v t =
-          let a = v.lists in
-          let b = v.entries in
-          let n = latest e h in
-          let c = n.1 in
-          let k = n.0 in
-          let fits = lists-fit in
-          let fits_e = entries_fit in
-          let up : m.entries ≡ suc l.entries = omega arith in
-          let at : m.entries - 1 ≡ l.entries = omega arith in
-          let same : m.lists ≡ suc k = omega arith in
-          let low : m.lists - 1 ≡ k = omega arith in
-          let R = rows_from [] f.run.done in
-          let front : take (suc k) lists' ≡ R = ap (λ (x : ℕ). take x lists') (sym c) ∙ f.rows in
-          let here : get_or lists' k (row 0 0) ≡ get_or R k (row 0 0) = sym (get_or-front k lists' (row 0 0)) ∙ ap (λ (rs : List ListRow). get_or rs k (row 0 0)) front in
-          let x = one_more (get_or lists' k (row 0 0)) in
-          let wrote : lists'' ≡ set lists' k x = t.0 ∙ ap (λ (j : ℕ). set lists' j (one_more (get_or lists' j (row 0 0)))) low in
-          let wrote_e : entries'' ≡ set entries' l.entries e = t.1 ∙ ap (λ (j : ℕ). set entries' j e) at in
-          let long : length R ≡ suc k = rows_long (omega arith) ∙ c in
-          let done : next-run.done ≡ f.run.done ++ (an_entry (entry_read e) ∷ []) = done-is ∙ ap (λ (y : CodeItem). f.run.done ++ (item_read y ∷ [])) h in
-          let widens : take (suc k) (set lists' k x) ≡ widened 1 R = take-set-in k lists' x ∙ ap₂ (λ (rs : List ListRow) (r : ListRow). set rs k (one_more r)) front here ∙ sym (widened-set R k long) in
-          record {
-            run = next-run;
-            rows = ap₂ take same wrote ∙ widens ∙ sym (rows_append [] f.run.done (an_entry (entry_read e) ∷ [])) ∙ ap (rows_from []) (sym done);
-            rows_behind = ap₂ drop same wrote ∙ drop-set k lists' x ∙ ap (λ (j : ℕ). drop j lists') (sym c) ∙ f.rows_behind ∙ ap (λ (j : ℕ). drop j lists) (c ∙ sym same);
-            terms =
-                ap₂ (λ (j : ℕ) (es : List (Entry Term Marks)). map entry_read (take j es)) up wrote_e
-                ∙ ap (map entry_read) (take-set l.entries entries' e (omega arith))
-                ∙ map-append entry_read (take l.entries entries') (e ∷ [])
-                ∙ ap (λ (es : List TermEntry). es ++ (entry_read e ∷ [])) f.terms
-                ∙ sym (entries-among-append f.run.done (an_entry (entry_read e) ∷ []))
-                ∙ ap entries_among (sym done);
-            terms_behind = ap₂ drop up wrote_e ∙ drop-set l.entries entries' e ∙ drop_more_same l.entries entries' entries f.terms_behind ∙ ap (λ (j : ℕ). drop j entries) (sym up);
-          }
-      go ClosingItem h v t =
-          let a = v.lists in
-          let b = v.entries in
-          let same : m.lists ≡ l.lists = omega arith in
-          let done : next-run.done ≡ f.run.done ++ (the_end ∷ []) = done-is ∙ ap (λ (y : CodeItem). f.run.done ++ (item_read y ∷ [])) h in
-          record {
-            run = next-run;
-            rows = ap₂ take same t.0 ∙ f.rows ∙ sym (rows_append [] f.run.done (the_end ∷ [])) ∙ ap (rows_from []) (sym done);
-            rows_behind = ap₂ drop same t.0 ∙ f.rows_behind ∙ ap (λ (k : ℕ). drop k lists) (sym same);
-            terms = same-terms m.entries (omega arith) the_end refl entries'' t.1 ∙ ap entries_among (sym done);
-            terms_behind = same-behind m.entries (omega arith) entries'' t.1;
-          }
+  -- the same by what a call of `next` and the counts behind it say
+  module _ (r : Result (Option CodeItem) Fault) (i : CodeItem) (e : r ≡ Ok (Some i)) (h : Reads l m r) (n : Loaded) (count : n ≡ counts_of m) where
+    reads : Reads l m (Ok (Some i))
+    reads = subst (Reads l m) e h
+
+    pub can_store : CanStore i n lists' entries'
+    can_store =
+        subst (λ (c : Loaded). CanStore i c lists' entries') (sym count)
+        (can_store-at i (goes_on file l f.run m _ i refl reads) (done-one-more file l f.run m i reads) reads.1)
+
+    pub stored : (lists'' : List ListRow) (entries'' : List (Entry Term Marks)) → Stores i n lists' lists'' entries' entries'' → Fills file m lists lists'' entries entries''
+    stored lists'' entries'' s =
+        stored-at i (goes_on file l f.run m _ i refl reads) (done-one-more file l f.run m i reads) reads.1 lists'' entries''
+        (subst (λ (c : Loaded). Stores i c lists' lists'' entries' entries'') count s)
 
 begins-long : (xs bs : List ℕ) → begins xs bs ≡ true → length xs ≤ length bs
 begins-long [] bs e = omega arith
-begins-long (x ∷ xs) [] e = let z : ◌≡◌ {A = ℕ} 0 1 = cc in absurd (omega arith)
+begins-long (x ∷ xs) [] e = absurd (cc)
 begins-long (x ∷ xs) (b ∷ bs) e = let ih = begins-long xs bs (go (eqb x b) e) in omega arith
   where
     go : (t : Bool) → cond t (begins xs bs) false ≡ true → begins xs bs ≡ true
     go true h = h
-    go false h = let z : ◌≡◌ {A = ℕ} 0 1 = cc in absurd (omega arith)
+    go false h = absurd (cc)
 
 module _ (file : List ℕ) (nl ne : ℕ) (room : Room file nl ne) where
   pub room-opens : begins opening file ≡ true
@@ -263,15 +249,15 @@ module _ (file : List ℕ) (nl ne : ℕ) (room : Room file nl ne) where
   room-long = begins-long opening file room-opens
 
   pub not-refused : (f : Fault) → file_items file ≡ Err f → ⊥
-  not-refused f e = not-ok f (all file nl ne room) (sym e ∙ (found file nl ne room).1)
+  not-refused f e = let z = (found file nl ne room).1 in cc
 
 pub none_yet : (file : List ℕ) (l : Loader) (lists : List ListRow) (entries : List (Entry Term Marks)) → begins opening file ≡ true → Begun file l → Fills file l lists lists entries entries
 none_yet file l lists entries o b = record {
   run = begun file l o b;
-  rows = ap (λ (k : ℕ). take k lists) b.lists ∙ ap (rows_from []) (sym nothing);
-  rows_behind = refl;
-  terms = ap (λ (k : ℕ). map entry_read (take k entries)) b.entries ∙ ap entries_among (sym nothing);
-  terms_behind = refl;
+  rows = ap₂ (λ (is : List Item) (k : ℕ). rows_of is ++ drop k lists) (sym nothing) (sym b.lists);
+  front = [];
+  terms = ap entries_among (sym nothing);
+  held = ap (λ (k : ℕ). drop k entries) (sym b.entries);
 }
   where
     nothing : (begun file l o b).done ≡ []
@@ -282,14 +268,13 @@ pub holds-all : (file : List ℕ) (l : Loader) (lists lists' : List ListRow) (en
 holds-all file l lists lists' entries entries' f e tree r =
     let done = f.run.done in
     let t : tree_of done ≡ tree = let z = ap tree_read e in cc in
-    let terms-are : entries_among done ≡ all_entries tree = (told done (file-closed file done e).1.closed).terms ∙ ap all_entries t in
-    let nl : l.lists ≡ length tree = f.run.lists ∙ sym (lists-gathered done) ∙ ap length t in
-    let ne : l.entries ≡ length (all_entries tree) = f.run.entries ∙ ap length terms-are in
+    let terms-are : map entry_read f.front ≡ all_entries tree = f.terms ∙ (told done (file-closed file done e).1.closed).terms ∙ ap all_entries t in
+    let nl : l.loaded.lists ≡ length tree = f.run.lists ∙ sym (lists-gathered done) ∙ ap length t in
+    let long : length f.front ≡ length (all_entries tree) = sym (length-map f.front entry_read) ∙ ap length terms-are in
+    let ne : l.loaded.entries ≡ length (all_entries tree) = f.run.entries ∙ ap length (sym f.terms ∙ terms-are) in
+    let whole : entries' ≡ f.front ++ drop (length (all_entries tree)) entries = f.held ∙ ap (λ (k : ℕ). f.front ++ drop k entries) ne in
     record {
-      rows =
-          sym (take-append-drop l.lists lists')
-          ∙ ap₂ ◌++◌ (f.rows ∙ rows-of-tree done ∙ ap (map list_row) t) f.rows_behind
-          ∙ ap (λ (k : ℕ). map list_row tree ++ drop k lists) nl;
-      terms = ap (λ (k : ℕ). map entry_read (take k entries')) (sym ne) ∙ f.terms ∙ terms-are;
-      behind = ap (λ (k : ℕ). drop k entries') (sym ne) ∙ f.terms_behind ∙ ap (λ (k : ℕ). drop k entries) ne;
+      rows = f.rows ∙ ap₂ (λ (rs : List ListRow) (k : ℕ). rs ++ drop k lists) (ap (map list_row) t) nl;
+      terms = ap (map entry_read) (ap₂ take (sym long) whole ∙ take-append_seam f.front _) ∙ terms-are;
+      behind = ap₂ drop (sym long) whole ∙ drop-append_seam f.front _;
     }

@@ -1,4 +1,3 @@
-mod Reading
 mod Closing
 mod Gathering
 mod Runs

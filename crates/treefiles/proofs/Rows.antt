@@ -1,105 +1,71 @@
 -- List rows as the items come. Assumes nothing.
-use Rattle.std.proofs.Common.{◌≡◌, ℕ, zero, suc, ◌+◌, ◌≤◌, List, [], ◌∷◌, ◌++◌, map, length, get_or, set, sym, refl, ap, ◌∙◌, append_assoc, append-nil, arith}
+use Rattle.std.proofs.Common.{◌≡◌, ℕ, zero, suc, ◌+◌, ◌≤◌, List, [], ◌∷◌, ◌++◌, map, length, get_or, set, refl, ap, ap₂, arith, length-append}
 use Rattle.shelves.specs.declared.rows.ListRow.{ListRow}
 use Rattle.treefiles.specs.Filling.{row, one_more}
+use Rattle.treefiles.specs.Format.{TermEntry, TermList, all_entries}
 use Rattle.treefiles.specs.Loading.{list_row}
 use Rattle.treefiles.specs.Reader.{Item, a_list, an_entry, the_end, gathered, tree_of}
-use Rattle.treefiles.proofs.Gathering.{entries_among}
+use Rattle.treefiles.proofs.Gathering.{entries_among, entries-gathered}
 
--- n entries more in the last row
-abbrev pub widened : ℕ → List ListRow → List ListRow
-widened n [] = []
-widened n (r ∷ []) = row r.parent (r.count + n) ∷ []
-widened n (r ∷ (s ∷ rs)) = r ∷ widened n (s ∷ rs)
+abbrev pub rows_of : List Item → List ListRow
+rows_of is = map list_row (tree_of is)
 
-abbrev pub grown : List ListRow → Item → List ListRow
-grown rows (a_list p) = rows ++ (row p 0 ∷ [])
-grown rows (an_entry e) = widened 1 rows
-grown rows the_end = rows
+-- a list opens a row,
+list-first : (is : List Item) (p : ℕ) → (gathered (is ++ (a_list p ∷ []))).0 ≡ (gathered is).0
+list-first [] p = refl
+list-first (a_list q ∷ is) p = refl
+list-first (an_entry e ∷ is) p = ap (λ (es : List TermEntry). e ∷ es) (list-first is p)
+list-first (the_end ∷ is) p = list-first is p
 
-abbrev pub rows_from : List ListRow → List Item → List ListRow
-rows_from rows [] = rows
-rows_from rows (i ∷ is) = rows_from (grown rows i) is
+pub rows-list : (is : List Item) (p : ℕ) → rows_of (is ++ (a_list p ∷ [])) ≡ rows_of is ++ (row p 0 ∷ [])
+rows-list [] p = refl
+rows-list (a_list q ∷ is) p = ap₂ (λ (es : List TermEntry) (rs : List ListRow). row q (length es) ∷ rs) (list-first is p) (rows-list is p)
+rows-list (an_entry e ∷ is) p = rows-list is p
+rows-list (the_end ∷ is) p = rows-list is p
 
-pub rows_append : (rows : List ListRow) (is js : List Item) → rows_from rows (is ++ js) ≡ rows_from (rows_from rows is) js
-rows_append rows [] js = refl
-rows_append rows (i ∷ is) js = rows_append (grown rows i) is js
+-- an entry is counted in the latest row,
+entry-alone : (is : List Item) (e : TermEntry) → length (rows_of is) ≡ 0
+    → (rows_of (is ++ (an_entry e ∷ [])) ≡ rows_of is) × (length (gathered (is ++ (an_entry e ∷ []))).0 ≡ length (gathered is).0 + 1)
+entry-alone [] e h = (refl, refl)
+entry-alone (a_list q ∷ is) e h = absurd (omega arith)
+entry-alone (an_entry f ∷ is) e h = let ih = entry-alone is e h in let n = ih.1 in (ih.0, omega arith)
+entry-alone (the_end ∷ is) e h = entry-alone is e h
 
-widened_none : (rows : List ListRow) → widened 0 rows ≡ rows
-widened_none [] = refl
-widened_none (r ∷ []) = let n : r.count + 0 ≡ r.count = omega arith in ap (λ (k : ℕ). row r.parent k ∷ []) n
-widened_none (r ∷ (s ∷ rs)) = ap (λ (l : List ListRow). r ∷ l) (widened_none (s ∷ rs))
+entry-later : (is : List Item) (e : TermEntry) (k : ℕ) → length (rows_of is) ≡ suc k → (gathered (is ++ (an_entry e ∷ []))).0 ≡ (gathered is).0
+entry-later [] e k h = absurd (omega arith)
+entry-later (a_list q ∷ is) e k h = refl
+entry-later (an_entry f ∷ is) e k h = ap (λ (es : List TermEntry). f ∷ es) (entry-later is e k h)
+entry-later (the_end ∷ is) e k h = entry-later is e k h
 
-widened_twice : (n : ℕ) (rows : List ListRow) → widened n (widened 1 rows) ≡ widened (suc n) rows
-widened_twice n [] = refl
-widened_twice n (r ∷ []) = let e : r.count + 1 + n ≡ r.count + suc n = omega arith in ap (λ (k : ℕ). row r.parent k ∷ []) e
-widened_twice n (r ∷ (s ∷ [])) = ap (λ (l : List ListRow). r ∷ l) (widened_twice n (s ∷ []))
-widened_twice n (r ∷ (s ∷ (t ∷ rs))) = ap (λ (l : List ListRow). r ∷ l) (widened_twice n (s ∷ (t ∷ rs)))
+pub rows-entry : (is : List Item) (e : TermEntry) (k : ℕ) → length (rows_of is) ≡ suc k
+    → rows_of (is ++ (an_entry e ∷ [])) ≡ set (rows_of is) k (one_more (get_or (rows_of is) k (row 0 0)))
+rows-entry [] e k h = absurd (omega arith)
+rows-entry (a_list q ∷ is) e zero h = let a = entry-alone is e (omega arith) in ap₂ (λ (n : ℕ) (rs : List ListRow). row q n ∷ rs) a.1 a.0
+rows-entry (a_list q ∷ is) e (suc k) h =
+    let n : length (rows_of is) ≡ suc k = omega arith in
+    ap₂ (λ (es : List TermEntry) (rs : List ListRow). row q (length es) ∷ rs) (entry-later is e k n) (rows-entry is e k n)
+rows-entry (an_entry f ∷ is) e k h = rows-entry is e k h
+rows-entry (the_end ∷ is) e k h = rows-entry is e k h
 
-widened-last : (n : ℕ) (rows : List ListRow) (r : ListRow) → widened n (rows ++ (r ∷ [])) ≡ rows ++ (row r.parent (r.count + n) ∷ [])
-widened-last n [] r = refl
-widened-last n (s ∷ []) r = refl
-widened-last n (s ∷ (t ∷ rows)) r = ap (λ (l : List ListRow). s ∷ l) (widened-last n (t ∷ rows) r)
+-- and the end of the file leaves the rows as they are
+gathered-end : (is : List Item) → gathered (is ++ (the_end ∷ [])) ≡ gathered is
+gathered-end [] = refl
+gathered-end (a_list p ∷ is) = ap (λ (g : List TermEntry × List TermList). ([], record { parent = p; entries = g.0 } ∷ g.1)) (gathered-end is)
+gathered-end (an_entry e ∷ is) = ap (λ (g : List TermEntry × List TermList). (e ∷ g.0, g.1)) (gathered-end is)
+gathered-end (the_end ∷ is) = gathered-end is
 
-rows-gathered : (rows : List ListRow) (is : List Item) → rows_from rows is ≡ widened (length (gathered is).0) rows ++ map list_row (gathered is).1
-rows-gathered rows [] = sym (append-nil _ ∙ widened_none rows)
-rows-gathered rows (a_list p ∷ is) =
-    let n = length (gathered is).0 in
-    let more = map list_row (gathered is).1 in
-    let e : 0 + n ≡ n = omega arith in
-    rows-gathered (rows ++ (row p 0 ∷ [])) is
-    ∙ ap (λ (l : List ListRow). l ++ more) (widened-last n rows (row p 0) ∙ ap (λ (k : ℕ). rows ++ (row p k ∷ [])) e)
-    ∙ append_assoc rows (row p n ∷ []) more
-    ∙ ap (λ (l : List ListRow). l ++ (row p n ∷ more)) (sym (widened_none rows))
-rows-gathered rows (an_entry e ∷ is) =
-    rows-gathered (widened 1 rows) is ∙ ap (λ (l : List ListRow). l ++ map list_row (gathered is).1) (widened_twice (length (gathered is).0) rows)
-rows-gathered rows (the_end ∷ is) = rows-gathered rows is
+pub rows-end : (is : List Item) → rows_of (is ++ (the_end ∷ [])) ≡ rows_of is
+rows-end is = ap (λ (g : List TermEntry × List TermList). map list_row g.1) (gathered-end is)
 
-pub rows-of-tree : (is : List Item) → rows_from [] is ≡ map list_row (tree_of is)
-rows-of-tree is = rows-gathered [] is
+-- a row counts no more entries than there are
+few-in : (ls : List TermList) (k : ℕ) → (get_or (map list_row ls) k (row 0 0)).count ≤ length (all_entries ls)
+few-in [] k = omega arith
+few-in (l ∷ ls) zero = let n = length-append l.entries (all_entries ls) in omega arith
+few-in (l ∷ ls) (suc k) = let n = length-append l.entries (all_entries ls) in let ih = few-in ls k in omega arith
 
-length-widened : (n : ℕ) (rows : List ListRow) → length (widened n rows) ≡ length rows
-length-widened n [] = refl
-length-widened n (r ∷ []) = refl
-length-widened n (r ∷ (s ∷ rs)) = ap suc (length-widened n (s ∷ rs))
-
--- one entry more in the last row is one write
-pub widened-set : (rows : List ListRow) (n : ℕ) → length rows ≡ suc n → widened 1 rows ≡ set rows n (one_more (get_or rows n (row 0 0)))
-widened-set [] n h = absurd (omega arith)
-widened-set (r ∷ []) zero h = refl
-widened-set (r ∷ []) (suc n) h = absurd (omega arith)
-widened-set (r ∷ (s ∷ rs)) zero h = absurd (omega arith)
-widened-set (r ∷ (s ∷ rs)) (suc n) h = ap (λ (l : List ListRow). r ∷ l) (widened-set (s ∷ rs) n (omega arith))
-
--- the last row counts no more entries than there are
-abbrev last_count : List ListRow → ℕ
-last_count [] = 0
-last_count (r ∷ []) = r.count
-last_count (r ∷ (s ∷ rs)) = last_count (s ∷ rs)
-
-last-widened : (rows : List ListRow) → last_count (widened 1 rows) ≤ last_count rows + 1
-last-widened [] = omega arith
-last-widened (r ∷ []) = omega arith
-last-widened (r ∷ (s ∷ [])) = omega arith
-last-widened (r ∷ (s ∷ (t ∷ rs))) = last-widened (s ∷ (t ∷ rs))
-
-last-new : (rows : List ListRow) (p : ℕ) → last_count (rows ++ (row p 0 ∷ [])) ≡ 0
-last-new [] p = refl
-last-new (r ∷ []) p = refl
-last-new (r ∷ (s ∷ rs)) p = last-new (s ∷ rs) p
-
-last-few : (rows : List ListRow) (is : List Item) → last_count (rows_from rows is) ≤ last_count rows + length (entries_among is)
-last-few rows [] = omega arith
-last-few rows (a_list p ∷ is) = let ih = last-few (rows ++ (row p 0 ∷ [])) is in let z = last-new rows p in omega arith
-last-few rows (an_entry e ∷ is) = let ih = last-few (widened 1 rows) is in let z = last-widened rows in omega arith
-last-few rows (the_end ∷ is) = last-few rows is
-
-last-at : (rows : List ListRow) (n : ℕ) → length rows ≡ suc n → (get_or rows n (row 0 0)).count ≡ last_count rows
-last-at [] n h = absurd (omega arith)
-last-at (r ∷ []) zero h = refl
-last-at (r ∷ []) (suc n) h = absurd (omega arith)
-last-at (r ∷ (s ∷ rs)) zero h = absurd (omega arith)
-last-at (r ∷ (s ∷ rs)) (suc n) h = last-at (s ∷ rs) n (omega arith)
-
-pub few-counted : (is : List Item) (n : ℕ) → length (rows_from [] is) ≡ suc n → (get_or (rows_from [] is) n (row 0 0)).count ≤ length (entries_among is)
-few-counted is n h = let e = last-at (rows_from [] is) n h in let f = last-few [] is in omega arith
+pub few-counted : (is : List Item) (k : ℕ) → (get_or (rows_of is) k (row 0 0)).count ≤ length (entries_among is)
+few-counted is k =
+    let few = few-in (tree_of is) k in
+    let all = ap length (entries-gathered is) in
+    let n = length-append (gathered is).0 (all_entries (tree_of is)) in
+    omega arith

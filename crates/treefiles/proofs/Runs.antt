@@ -16,10 +16,10 @@ pub record Run (file : List ℕ) (l : Loader) : Type 0 where
   pub done : List Item
   pub fields : ℕ
   pub of : l.file.now ≡ file
-  pub same : file_items file ≡ after done (items fields l.stage l.entries l.at (drop l.at file))
+  pub same : file_items file ≡ after done (items fields l.stage l.loaded.entries l.at (drop l.at file))
   pub enough : length file < fields + l.at
-  pub lists : l.lists ≡ lists_among done
-  pub entries : l.entries ≡ length (entries_among done)
+  pub lists : l.loaded.lists ≡ lists_among done
+  pub entries : l.loaded.entries ≡ length (entries_among done)
 
 after_none : (r : Result (List Item) Fault) → r ≡ after [] r
 after_none (Ok is) = refl
@@ -49,15 +49,15 @@ begun-done file l o b = refl
 
 module _ (file : List ℕ) (l : Loader) (run : Run file l) where
   abbrev next_here : Result (Option Item) Fault
-  next_here = next_item l.stage l.entries l.at (drop l.at file)
+  next_here = next_item l.stage l.loaded.entries l.at (drop l.at file)
 
   -- the fields do not run out before the file
   some-fields : (n : ℕ) → length file < n + l.at → (k : ℕ) × (n ≡ suc k)
   some-fields zero h = let w : l.at ≤ length file = subst (λ (f : List ℕ). l.at ≤ length f) run.of l.within in absurd (omega arith)
   some-fields (suc k) h = (k, refl)
 
-  unfolded : (k : ℕ) → run.fields ≡ suc k → file_items file ≡ after run.done (follow (rest_of k l.entries l.at (drop l.at file)) next_here)
-  unfolded k e = run.same ∙ ap (λ (n : ℕ). after run.done (items n l.stage l.entries l.at (drop l.at file))) e
+  unfolded : (k : ℕ) → run.fields ≡ suc k → file_items file ≡ after run.done (follow (rest_of k l.loaded.entries l.at (drop l.at file)) next_here)
+  unfolded k e = run.same ∙ ap (λ (n : ℕ). after run.done (items n l.stage l.loaded.entries l.at (drop l.at file))) e
 
   pub moved : (m : Loader) (i : Item) → next_here ≡ Ok (Some i) → Moved l m i → Run file m
   moved m i n h =
@@ -73,7 +73,7 @@ module _ (file : List ℕ) (l : Loader) (run : Run file l) where
         of = ap (λ x. x.now) h.file ∙ run.of;
         same =
             unfolded k e
-            ∙ ap (λ (r : Result (Option Item) Fault). after run.done (follow (rest_of k l.entries l.at (drop l.at file)) r)) n
+            ∙ ap (λ (r : Result (Option Item) Fault). after run.done (follow (rest_of k l.loaded.entries l.at (drop l.at file)) r)) n
             ∙ after-after run.done (i ∷ []) _
             ∙ ap (after (run.done ++ (i ∷ []))) (there k h);
         enough = omega arith;
@@ -86,7 +86,7 @@ module _ (file : List ℕ) (l : Loader) (run : Run file l) where
       positive (an_entry e) = omega arith
       positive the_end = omega arith
 
-      there : (k : ℕ) → Moved l m i → rest_of k l.entries l.at (drop l.at file) i ≡ items k m.stage m.entries m.at (drop m.at file)
+      there : (k : ℕ) → Moved l m i → rest_of k l.loaded.entries l.at (drop l.at file) i ≡ items k m.stage m.loaded.entries m.at (drop m.at file)
       there k h = rw (h.stage, h.entries, h.at, drop-drop (size_of i) l.at file)
 
       one_list : lists_among run.done + lists_in i ≡ lists_among (run.done ++ (i ∷ []))
@@ -105,18 +105,18 @@ module _ (file : List ℕ) (l : Loader) (run : Run file l) where
   stopped n =
       let s = some-fields run.fields run.enough in
       unfolded s.0 s.1
-      ∙ ap (λ (r : Result (Option Item) Fault). after run.done (follow (rest_of s.0 l.entries l.at (drop l.at file)) r)) n
+      ∙ ap (λ (r : Result (Option Item) Fault). after run.done (follow (rest_of s.0 l.loaded.entries l.at (drop l.at file)) r)) n
       ∙ ap (λ (is : List Item). Ok is) (append-nil run.done)
 
   pub refused : (f : Fault) → next_here ≡ Err f → file_items file ≡ Err f
   refused f n =
       let s = some-fields run.fields run.enough in
       unfolded s.0 s.1
-      ∙ ap (λ (r : Result (Option Item) Fault). after run.done (follow (rest_of s.0 l.entries l.at (drop l.at file)) r)) n
+      ∙ ap (λ (r : Result (Option Item) Fault). after run.done (follow (rest_of s.0 l.loaded.entries l.at (drop l.at file)) r)) n
 
   -- the same by what a call of `next` says
-  here : (x : Result (Option Item) Fault) → x ≡ next_item l.stage l.entries l.at (drop l.at l.file.now) → next_here ≡ x
-  here x e = ap (λ (f : List ℕ). next_item l.stage l.entries l.at (drop l.at f)) (sym run.of) ∙ sym e
+  here : (x : Result (Option Item) Fault) → x ≡ next_item l.stage l.loaded.entries l.at (drop l.at l.file.now) → next_here ≡ x
+  here x e = ap (λ (f : List ℕ). next_item l.stage l.loaded.entries l.at (drop l.at f)) (sym run.of) ∙ sym e
 
   pub goes_on : (m : Loader) (r : Result (Option CodeItem) Fault) (i : CodeItem) → r ≡ Ok (Some i) → Reads l m r → Run file m
   goes_on m r i e h =

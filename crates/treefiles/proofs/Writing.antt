@@ -1,28 +1,28 @@
 -- A file is read exactly where it is the file of a tree. Assumes nothing.
 use Rattle.std.proofs.Common.{◌≡◌, ℕ, zero, suc, ◌+◌, ◌*◌, ◌/◌, ◌%◌, ◌≤◌, Bool, true, false, cond, eqb, List, [], ◌∷◌, ◌++◌, length, drop, Some, None, Ok, sym, refl, ap, ◌∙◌, subst, ap₂, append-nil, arith, length-append}
+use Rattle.std.proofs.lemmas.List.Elements.{All-drop}
 use lib.Seq.{take-append_seam, drop-append_seam}
 use Rattle.std.proofs.lemmas.Bool.{eq-eqb, le-leb, eqb-true}
 use Rattle.std.proofs.lemmas.Bool.Decides.{nat_tests}
 use Rattle.terms.specs.Keys.{key_fault}
 use Rattle.treefiles.specs.Format.{TermEntry, TermList, all_entries, field, closing_field, four_bytes, list_fields, written, opening, IsTree, Keyed}
-use Rattle.treefiles.specs.Reader.{Item, a_list, an_entry, the_end, first_field, number, next_item, stage_after, entries_in, size_of, entries, some_item, said_of, after, follow, items, gathered, tree_of, begins, tree_read, read}
+use Rattle.treefiles.specs.Reader.{Item, a_list, an_entry, the_end, first_field, number, next_item, stage_after, entries_in, size_of, entries, entry_in, some_item, said_of, after, follow, items, gathered, tree_of, begins, tree_read, read}
 use Rattle.treefiles.specs.declared.stage.Stage.{Stage}
 use Rattle.treefiles.specs.declared.stage.Stage.TheVariants.{Opening, List as ListRead, Entry as EntryRead, Closing}
-use Rattle.treefiles.proofs.Closing.{Phase, first, within, phase_of, phase_after, phase-after, Accepts, Closes, item_field, item_fields, Bytes, bytes_drop, number-four, rest_of}
+use Rattle.treefiles.proofs.Closing.{Phase, first, within, phase_of, phase_after, phase-after, Accepts, Closes, item_field, item_fields, IsByte, Bytes, number-four, rest_of}
 use Rattle.treefiles.specs.Steps.{sized}
-use Rattle.treefiles.proofs.Reading.{entry-said}
 use Rattle.treefiles.proofs.Gathering.{told}
 use Rattle.treefiles.proofs.Filled.{tree-items}
 use Rattle.treefiles.proofs.Runs.{file-closed}
 
 begins-front : (xs bs : List ℕ) → begins xs bs ≡ true → bs ≡ xs ++ drop (length xs) bs
 begins-front [] bs e = refl
-begins-front (x ∷ xs) [] e = let z : ◌≡◌ {A = ℕ} 0 1 = cc in absurd (omega arith)
+begins-front (x ∷ xs) [] e = absurd (cc)
 begins-front (x ∷ xs) (b ∷ bs) e = go (begins-front xs bs) (eqb x b) refl e
   where
     go : (begins xs bs ≡ true → bs ≡ xs ++ drop (length xs) bs) → (t : Bool) → eqb x b ≡ t → cond t (begins xs bs) false ≡ true → b ∷ bs ≡ x ∷ (xs ++ drop (length xs) bs)
     go ih true f h = ap₂ (λ (y : ℕ) (ys : List ℕ). y ∷ ys) (sym (eqb-true x b f)) (ih h)
-    go ih false f h = let z : ◌≡◌ {A = ℕ} 0 1 = cc in absurd (omega arith)
+    go ih false f h = absurd (cc)
 
 pub read-is-written : (file : List ℕ) (tree : List TermList) → Bytes file → read file ≡ Ok tree → (file ≡ written tree) × IsTree tree
 read-is-written file tree b r =
@@ -30,7 +30,7 @@ read-is-written file tree b r =
     let w = file-closed file f.0 f.1 in
     let t = told f.0 w.1.closed in
     let fields = list_fields tree ++ closing_field (length (all_entries tree)) in
-    let rest : drop 5 file ≡ fields = w.1.spelled (bytes_drop file 5 b) ∙ t.spelled ∙ ap (λ (u : List TermList). list_fields u ++ closing_field (length (all_entries u))) f.2 in
+    let rest : drop 5 file ≡ fields = w.1.spelled (All-drop IsByte 5 file b) ∙ t.spelled ∙ ap (λ (u : List TermList). list_fields u ++ closing_field (length (all_entries u))) f.2 in
     (begins-front opening file w.0 ∙ ap (λ (l : List ℕ). opening ++ l) rest, subst IsTree f.2 t.is_tree)
 
 -- a field is read back
@@ -45,6 +45,9 @@ key-long text e = (grind (arith, nat_tests), grind (arith, nat_tests))
 
 entry-eta : (e : TermEntry) → record { marks = number (four_bytes e.marks ++ e.text); text = e.text } ≡ e
 entry-eta e = ap (λ (n : ℕ). record { marks = n; text = e.text }) (number-four e.marks e.text)
+
+entry-said : (at : ℕ) (body : List ℕ) → 5 ≤ length body → length body ≤ 36 → key_fault (drop 4 body) ≡ None → sized Opening 0 at entries body ≡ Ok (an_entry (entry_in body))
+entry-said at body h l e = rw (le-leb 5 (length body) h, le-leb (length body) 36 l, e)
 
 entry-back : (at : ℕ) (e : TermEntry) → key_fault e.text ≡ None → sized Opening 0 at entries (four_bytes e.marks ++ e.text) ≡ Ok (an_entry e)
 entry-back at e k =

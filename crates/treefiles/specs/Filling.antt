@@ -1,5 +1,8 @@
 -- What filling memory from a checked file asks and does.
-use Rattle.std.specs.Prelude.{◌≡◌, ℕ, ◌+◌, ◌-◌, ◌^◌, ◌<◌, ◌≤◌, List, length, get_or, Ok, slice_index_or, slice_set}
+use Rattle.std.specs.Prelude.{◌≡◌, ℕ, ◌+◌, ◌-◌, ◌^◌, ◌<◌, ◌≤◌, List, length, get_or, Ok, Err, Result, slice_index_or, slice_set}
+use Rattle.faults.specs.Refusals.{fault}
+use Rattle.faults.specs.declared.Fault.{Fault}
+use Rattle.faults.specs.declared.Reason.TheVariants.{LoadMemoryShort}
 use Rattle.orders.specs.declared.entry.Entry.{Entry}
 use Rattle.shelves.specs.declared.rows.ListRow.{ListRow}
 use Rattle.terms.specs.declared.key.Term.{Term}
@@ -8,6 +11,8 @@ use Rattle.treefiles.specs.Format.{TermList, all_entries}
 use Rattle.treefiles.specs.Reader.{read}
 use Rattle.treefiles.specs.declared.item.Item.{Item}
 use Rattle.treefiles.specs.declared.item.Item.TheVariants.{List as ListItem, Entry as EntryItem, Closing as ClosingItem}
+use Rattle.treefiles.specs.declared.load.Memory.{Memory}
+use Rattle.treefiles.specs.declared.load.Memory.TheVariants.{Lists, Entries}
 use Rattle.treefiles.specs.declared.loaded.Loaded.{Loaded}
 
 -- the file holds a tree, for which there is room
@@ -38,3 +43,13 @@ Stores (ListItem p) upto lists lists' entries entries' = (lists' ≡ slice_set l
 Stores (EntryItem e) upto lists lists' entries entries' =
     (lists' ≡ slice_set lists (upto.lists - 1) (one_more (slice_index_or lists (upto.lists - 1) (row 0 0)))) × (entries' ≡ slice_set entries (upto.entries - 1) e)
 Stores ClosingItem upto lists lists' entries entries' = (lists' ≡ lists) × (entries' ≡ entries)
+
+-- the number by which a refusal names a memory
+abbrev pub place_of : Memory → ℕ
+place_of Lists = 1
+place_of Entries = 2
+
+-- there are places enough, or the refusal names the memory and how many are needed
+abbrev pub Asks : Memory → (needed places : ℕ) → Result Unit Fault → Type 0
+Asks m needed places (Ok u) = needed ≤ places
+Asks m needed places (Err f) = (places < needed) × (f ≡ fault LoadMemoryShort (place_of m) needed)

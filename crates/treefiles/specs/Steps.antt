@@ -41,8 +41,8 @@ pub record Moved (before after : Loader) (i : Item) : Type 0 where
   pub file : after.file ≡ before.file
   pub at : after.at ≡ before.at + size_of i
   pub stage : after.stage ≡ stage_after i
-  pub lists : after.lists ≡ before.lists + lists_in i
-  pub entries : after.entries ≡ before.entries + entries_in i
+  pub lists : after.loaded.lists ≡ before.loaded.lists + lists_in i
+  pub entries : after.loaded.entries ≡ before.loaded.entries + entries_in i
 
 -- what comes of a field: what it says, and the loader then moves over it; a refusal leaves the loader as it was
 abbrev pub Takes : (before after : Loader) → Result Item Fault → Type 0
@@ -51,7 +51,7 @@ Takes before after (Err f) = after ≡ before
 
 abbrev pub TakesField : (before after : Loader) (tag : ℕ) (body : List ℕ) → Result CodeItem Fault → Type 0
 TakesField before after tag body r =
-    (items_read r ≡ said before.stage before.entries before.at (tag_of tag) body) × Takes before after (items_read r)
+    (items_read r ≡ said before.stage before.loaded.entries before.at (tag_of tag) body) × Takes before after (items_read r)
 
 abbrev pub next_read : Result (Option CodeItem) Fault → Result (Option Item) Fault
 next_read (Ok o) = Ok (option_map item_read o)
@@ -65,18 +65,18 @@ Moves before after (Err f) = after ≡ before
 -- the next item of the file
 abbrev pub Reads : (before after : Loader) → Result (Option CodeItem) Fault → Type 0
 Reads before after r =
-    (next_read r ≡ next_item before.stage before.entries before.at (drop before.at before.file.now)) × Moves before after (next_read r)
+    (next_read r ≡ next_item before.stage before.loaded.entries before.at (drop before.at before.file.now)) × Moves before after (next_read r)
 
 -- a loader behind the opening
 pub record Begun (file : List ℕ) (l : Loader) : Type 0 where
   pub of : l.file.now ≡ file
   pub at : l.at ≡ 5
   pub stage : l.stage ≡ Opening
-  pub lists : l.lists ≡ 0
-  pub entries : l.entries ≡ 0
+  pub lists : l.loaded.lists ≡ 0
+  pub entries : l.loaded.entries ≡ 0
 
 abbrev pub counts_of : Loader → Loaded
-counts_of l = record { lists = l.lists; entries = l.entries }
+counts_of l = l.loaded
 
 -- the answer for a file that opens right, and for another
 abbrev pub Opens : List ℕ → Result Unit Fault → Type 0

@@ -9,8 +9,5 @@ use crate::load::check;
 pub fn galdrisco_check_tree(file: &[u8]) -> u32
     ensures { result ≡ refusal (read file.now) }
 {
-    match check(file) {
-        Ok(_) => 0,
-        Err(fault) => fault.reason.number(),
-    }
+    check(file).err().map_or(0, |fault| fault.reason.number())
 }

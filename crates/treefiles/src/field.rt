@@ -1,6 +1,8 @@
-// A field of a tree file: a tag byte, a length in two bytes, the high byte first, and as many bytes of body.
+// A field of a tree file: the offset at which it begins, a tag byte, a length in two bytes, the high byte first, and
+// as many bytes of body.
 #[derive(Clone, Copy)]
 pub struct Field<'f> {
+    pub at: usize,
     pub tag: u8,
     pub body: &'f [u8],
 }

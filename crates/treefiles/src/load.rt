@@ -1,6 +1,6 @@
 // Checking and loading tree files.
-ghost use Rattle.std.specs.Prelude.{◌≡◌, ◌+◌, ◌^◌, ◌<◌, length, get_or, Ok, slice_index_or, slice_set};
-ghost use Rattle.treefiles.specs.Filling.{Room, CanStore, Stores, row, one_more};
+ghost use Rattle.std.specs.Prelude.{◌≡◌, ◌≤◌, length};
+ghost use Rattle.treefiles.specs.Filling.{Room, CanStore, Stores, Asks};
 ghost use Rattle.treefiles.specs.Loading.{checked, Holds, Loads};
 ghost use Rattle.treefiles.specs.Reader.{read};
 
@@ -20,49 +20,65 @@ pub fn check(file: &[u8]) -> Result<Loaded, Fault>
 {
     check_opening(file)?;
     let mut loader = Loader::new(file);
+    // Not an `Iterator`: that would have to end behind a refusal, and the counts are asked for behind the loop.
     while let Some(_) = loader.next()? {}
     Ok(loader.loaded())
 }
 
-// One entry more in a row.
-fn count_entry(lists: &mut [ListRow], list: usize)
-    requires { (list < length lists.old) × ((get_or lists.old list (row 0 0)).count + 1 < 2 ^ 64) }
-    ensures { lists.new ≡ slice_set lists.old list (one_more (slice_index_or lists.old list (row 0 0))) }
-{
-    let row = lists[list];
-    lists[list] = ListRow {
-        count: row.count + 1,
-        ..row
-    };
+// The two memories that a load fills.
+#[derive(Drop)]
+struct Memories<'m> {
+    lists: &'m mut [ListRow],
+    entries: &'m mut [Entry<Term, Marks>],
 }
 
-// Stores an item at its place; `upto` counts it already.
-fn store(item: Item, upto: Loaded, lists: &mut [ListRow], entries: &mut [Entry<Term, Marks>])
-    requires { CanStore item upto lists.old entries.old }
-    ensures { Stores item upto lists.old lists.new entries.old entries.new }
-{
-    match item {
-        Item::List(parent) => lists[upto.lists - 1] = ListRow { parent, count: 0 },
-        Item::Entry(entry) => {
-            count_entry(lists, upto.lists - 1);
-            entries[upto.entries - 1] = entry;
+impl Memories<'_> {
+    // Stores an item at its place; `upto` counts it already.
+    fn store(&mut self, item: Item, upto: Loaded)
+        requires { CanStore item upto self.old.lists.now self.old.entries.now }
+        ensures stores { Stores item upto self.old.lists.now self.new.lists.now self.old.entries.now self.new.entries.now }
+        ensures same_lists { self.new.lists.ghost_name ≡ self.old.lists.ghost_name }
+        ensures same_entries { self.new.entries.ghost_name ≡ self.old.entries.ghost_name }
+    {
+        match item {
+            Item::List(parent) => self.lists[upto.lists - 1] = ListRow { parent, count: 0 },
+            Item::Entry(entry) => {
+                self.lists[upto.lists - 1].count += 1;
+                self.entries[upto.entries - 1] = entry;
+            }
+            Item::Closing => {}
         }
-        Item::Closing => {}
+    }
+
+    // Fills the memories from a file that was checked and for which there is room.
+    fn fill(&mut self, file: &[u8])
+        requires { Room file.now (length self.old.lists.now) (length self.old.entries.now) }
+        ensures holds { (room : Room file.now (length self.old.lists.now) (length self.old.entries.now)) → Holds room.tree self.old.lists.now self.new.lists.now self.old.entries.now self.new.entries.now }
+        ensures same_lists { self.new.lists.ghost_name ≡ self.old.lists.ghost_name }
+        ensures same_entries { self.new.entries.ghost_name ≡ self.old.entries.ghost_name }
+    {
+        let mut loader = Loader::new(file);
+        while let Ok(Some(item)) = loader.next() {
+            self.store(item, loader.loaded());
+        }
     }
 }
 
-// Fills the memories from a file that was checked and for which there is room.
-fn fill(file: &[u8], lists: &mut [ListRow], entries: &mut [Entry<Term, Marks>])
-    requires { Room file.now (length lists.old) (length entries.old) }
-    ensures { (room : Room file.now (length lists.old) (length entries.old)) → Holds room.tree lists.old lists.new entries.old entries.new }
+// The number by which a refusal names a memory.
+#[derive(Clone, Copy)]
+enum Memory {
+    Lists = 1,
+    Entries = 2,
+}
+
+// Refuses where a memory has fewer places than are needed.
+fn ask_room(memory: Memory, needed: usize, places: usize) -> Result<(), Fault>
+    ensures { Asks memory needed places result }
 {
-    let mut loader = Loader::new(file);
-    while let Ok(next) = loader.next() {
-        let Some(item) = next else {
-            return;
-        };
-        store(item, loader.loaded(), lists, entries);
+    if needed > places {
+        return Err(Fault::new(Reason::LoadMemoryShort, memory as usize, needed));
     }
+    Ok(())
 }
 
 // Loads a tree file: checks the whole file, then fills list and entry memory from their start and says how many
@@ -75,12 +91,8 @@ pub fn load(
     ensures { Loads file.now lists.old lists.new entries.old entries.new result }
 {
     let needed = check(file)?;
-    if needed.lists > lists.len() {
-        return Err(Fault::new(Reason::LoadMemoryShort, 1, needed.lists));
-    }
-    if needed.entries > entries.len() {
-        return Err(Fault::new(Reason::LoadMemoryShort, 2, needed.entries));
-    }
-    fill(file, lists, entries);
+    ask_room(Memory::Lists, needed.lists, lists.len())?;
+    ask_room(Memory::Entries, needed.entries, entries.len())?;
+    Memories { lists, entries }.fill(file);
     Ok(needed)
 }

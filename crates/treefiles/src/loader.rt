@@ -1,6 +1,7 @@
 // A loader: how far a tree file has been read.
 ghost use Rattle.std.specs.Prelude.{◌+◌, ◌<◌, ◌≤◌, length};
 
+use crate::loaded::Loaded;
 use crate::stage::Stage;
 
 pub mod reading;
@@ -12,8 +13,7 @@ pub struct Loader<'f> {
     file: &'f [u8],
     at: usize,
     stage: Stage,
-    lists: usize,
-    entries: usize,
+    loaded: Loaded,
     ghost within: { at ≤ length file.now },
-    ghost few: { lists + entries < at },
+    ghost few: { loaded.lists + loaded.entries < at },
 }

@@ -24,11 +24,8 @@ mod tests {
         assert_eq!(rt; galdrisco_check_tree(file), reason.number());
     }
 
-    fn old_row() -> ListRow {
-        ListRow {
-            parent: 7,
-            count: 9,
-        }
+    fn row(parent: usize, count: usize) -> ListRow {
+        ListRow { parent, count }
     }
 
     fn old_entry() -> Result<Entry<Term, Marks>, Fault> {
@@ -179,7 +176,7 @@ mod tests {
 
     #[test]
     fn what_lies_behind_is_kept(rt: HostRuntime) -> Result<(), Fail> {
-        let mut lists = [old_row(); 3];
+        let mut lists = [row(7, 9); 3];
         let mut entries = [old_entry()?; 2];
         assert_eq!(rt;
             load::load(TWO_LISTS, &mut lists, &mut entries),
@@ -188,9 +185,7 @@ mod tests {
                 entries: 1,
             })
         );
-        assert_eq!(rt; (lists[0].parent, lists[0].count), (0, 0));
-        assert_eq!(rt; (lists[1].parent, lists[1].count), (255, 1));
-        assert_eq!(rt; (lists[2].parent, lists[2].count), (7, 9));
+        assert_eq!(rt; lists, [row(0, 0), row(255, 1), row(7, 9)]);
         holds(&rt, &entries[0], b"up", 5);
         holds(&rt, &entries[1], b"old", 8);
         Ok(())
@@ -198,13 +193,13 @@ mod tests {
 
     #[test]
     fn short_memory_is_kept(rt: HostRuntime) -> Result<(), Fail> {
-        let mut lists = [old_row(); 2];
+        let mut lists = [row(7, 9); 2];
         let mut entries = [old_entry()?; 1];
         let short = load::load(TWO_LISTS, &mut lists[0..1], &mut entries[0..0]);
         assert_eq!(rt; short, Err(Fault::new(Reason::LoadMemoryShort, 1, 2)));
         let short = load::load(TWO_LISTS, &mut lists, &mut entries[0..0]);
         assert_eq!(rt; short, Err(Fault::new(Reason::LoadMemoryShort, 2, 1)));
-        assert_eq!(rt; (lists[0].parent, lists[1].count), (7, 9));
+        assert_eq!(rt; lists, [row(7, 9); 2]);
         holds(&rt, &entries[0], b"old", 8);
         Ok(())
     }

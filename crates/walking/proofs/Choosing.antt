@@ -1,5 +1,5 @@
 -- The spans of the chosen lists, in rising number.
-use Rattle.std.proofs.Common.{◌≡◌, ℕ, ◌+◌, ◌<◌, ◌≤◌, true, false, List, map, length, get_or, set, filter, Ordering, sym, ap, ◌∙◌, ap₂, arith, lit≤}
+use Rattle.std.proofs.Common.{◌≡◌, ℕ, ◌+◌, ◌<◌, ◌≤◌, true, false, List, map, length, get_or, set, filter, Ordering, sym, ap, ◌∙◌, subst, arith, lit≤}
 use mathlib.Core.List.{map-map}
 use Rattle.std.specs.List.{range_with_len}
 use Rattle.std.proofs.ByRecursion.{All-get_or, all_kept_by}
@@ -7,7 +7,7 @@ use Rattle.std.proofs.lemmas.List.{length-map, length_push, map_push}
 use Rattle.orders.specs.Laws.{LawfulOrder}
 use Rattle.orders.specs.declared.side.Side.TheVariants.{Low, High}
 use Rattle.shelves.specs.Slots.{sieve_lists, slot_count}
-use Rattle.cascade.specs.SlotTree.{chosen, chosen_lists}
+use Rattle.cascade.specs.SlotTree.{SieveShaped, chosen, chosen_lists}
 use Rattle.cascade.specs.Rows.{tally}
 use Rattle.cascade.specs.Trees.{KeyTree, own_source, ParentsSmaller, augmented}
 use Rattle.cascade.specs.Walks.{walked_place}
@@ -17,9 +17,11 @@ use Rattle.register.specs.Answers.{span, filled_up}
 use Rattle.register.specs.declared.answers.Span.{Span}
 use Rattle.walking.specs.Ranged.{ranged_spans}
 use Rattle.walking.specs.Reached.{no_span}
+use Rattle.walking.specs.Surveyed.{PlacesOf, PlacesWithin, placed_span, spans_at}
 use Rattle.walking.proofs.Filling.{filled_more}
-use Rattle.walking.proofs.Surveying.{sides_at, sides-within}
-use Rattle.walking.proofs.Keeping.{kept-yes, kept-no, kept-few}
+use Rattle.walking.proofs.Surveying.{sides-within}
+use Rattle.walking.proofs.Visiting.{visited-chosen}
+use Rattle.walking.proofs.Keeping.{kept-yes, kept-no, kept-few, map-kept}
 
 one_of : (used m n : ℕ) → used + 1 ≡ m → m ≤ n → n ≤ 10 → used < 10
 one_of used m n e h k = omega arith
@@ -73,13 +75,16 @@ module _ {K : Type 0} (order : K → K → Ordering) (t : KeyTree K) (low high :
   pub ranged-used : (a b : ℕ) → length (ranged_spans order t a b low high) ≡ length (chosen_lists a b)
   ranged-used a b = ap length (ranged-is a b) ∙ length-map (chosen_lists a b) span_at
 
-  -- the own tallies at the places of both sides
-  pub placed-span : LawfulOrder order → ParentsSmaller t → (v : ℕ) → v < length t → (at : ℕ × ℕ) → at ≡ (sides_at order t low high v).0 → (first after : ℕ)
-      → (at.0 ≤ length (augmented order t v) → first ≡ tally own_source at.0 (augmented order t v))
-      → (at.1 ≤ length (augmented order t v) → after ≡ tally own_source at.1 (augmented order t v))
-      → span v first after ≡ span_at v
-  placed-span laws smaller v l at e first after f h =
-      let w = sides-within order t low high laws smaller v l at e in
-      ap₂ (λ x y. span v x y)
-      (f w.0 ∙ ap (λ p. tally own_source p.0 (augmented order t v)) e)
-      (h w.1 ∙ ap (λ p. tally own_source p.1 (augmented order t v)) e)
+-- a table with the places of the visited lists
+module _ {K : Type 0} (order : K → K → Ordering) (t : KeyTree K) (low high : K) (a b : ℕ) (places : List (ℕ × ℕ)) (are : PlacesOf order t a b low high places) where
+  pub spans-are : spans_at order t a b places ≡ ranged_spans order t a b low high
+  spans-are =
+      map-kept (chosen a b) (placed_span order t places) (span_at order t low high) 0 sieve_lists
+      (λ v z h e.
+      let l : v < sieve_lists = omega arith in
+      ap (λ (p : ℕ × ℕ). span v (tally own_source p.0 (augmented order t v)) (tally own_source p.1 (augmented order t v))) (are v l (visited-chosen a b v l e)))
+      ∙ sym (ranged-is order t low high a b)
+
+  pub places-within : LawfulOrder order → ParentsSmaller t → SieveShaped t → PlacesWithin order t a b places
+  places-within laws smaller sieve = λ v l e.
+      sides-within order t low high laws smaller v (subst (λ n. v < n) (sym sieve.lists) l) (get_or places v (0, 0)) (are v l (visited-chosen a b v l e))

@@ -1,6 +1,6 @@
 -- The path to a list, found from its end.
-use Rattle.std.proofs.Common.{◌≡◌, ℕ, ◌+◌, ◌-◌, ◌<◌, ◌≤◌, List, [], ◌∷◌, ◌++◌, length, get_or, take, drop, set, sym, ap, ◌∙◌, arith}
-use Rattle.std.proofs.lemmas.List.{append-nil, append_assoc, length-set, length-drop, take_all, length_push, get_or-set_same, drop_more, drop_all, drop-set-lt}
+use Rattle.std.proofs.Common.{◌≡◌, ℕ, ◌+◌, ◌-◌, ◌<◌, ◌≤◌, List, [], ◌∷◌, ◌++◌, length, get_or, drop, set, sym, ap, ◌∙◌, arith}
+use Rattle.std.proofs.lemmas.List.{append-nil, append_assoc, length-set, length_push, get_or-set_same, drop_more, drop_all, drop-set-lt}
 use Rattle.cascade.specs.Trees.{KeyTree, parent_of, ParentsSmaller, path}
 use Rattle.cascade.proofs.Walking.{path-step}
 use Rattle.walking.proofs.Paths.{path-ends}
@@ -58,10 +58,8 @@ module _ {K : Type 0} (t : KeyTree K) (smaller : ParentsSmaller t) (end : ℕ) w
                 ∙ ap (λ p. path t up ++ p) (sym (drop-set-lt (from - 1 + 1) lists (from - 1) up (omega arith)));
           }
 
-    pub climbed-all : list ≡ 0 → take (9 - from) (drop from lists) ≡ path t end
-    climbed-all e =
-        let s = was.sized in
-        take_all (9 - from) (drop from lists) (omega (arith, length-drop from lists)) ∙ behind ∙ ap (λ v. v ∷ drop (from + 1) lists) e ∙ sym (was.whole ∙ ap (λ v. path t v ++ drop (from + 1) lists) e)
+    pub climbed-all : list ≡ 0 → drop from lists ≡ path t end
+    climbed-all e = behind ∙ ap (λ v. v ∷ drop (from + 1) lists) e ∙ sym (was.whole ∙ ap (λ v. path t v ++ drop (from + 1) lists) e)
 
   pub climbed-none : end < length t → length (path t end) ≤ 9 → (lists : List ℕ) → length lists ≡ 9 → Climbed t end end 8 (set lists 8 end)
   climbed-none there short lists n =

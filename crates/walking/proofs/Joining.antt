@@ -1,17 +1,16 @@
 -- The payloads of spans, one span after the other.
-use Rattle.std.proofs.Common.{◌≡◌, ℕ, suc, ◌+◌, ◌-◌, ◌*◌, ◌<◌, ◌≤◌, List, [], ◌∷◌, ◌++◌, map, length, get_or, take, drop, fold, Ordering, sym, refl, ap, ◌∙◌, ap₂, arith}
+use Rattle.std.proofs.Common.{◌≡◌, ℕ, suc, ◌+◌, ◌-◌, ◌*◌, ◌<◌, ◌≤◌, List, [], ◌∷◌, ◌++◌, map, length, get_or, take, drop, fold, sym, refl, ap, ◌∙◌, ap₂, arith}
 use Rattle.std.proofs.lemmas.List.{append-nil, append_assoc, length-append, length-take-le, length-drop, map_more, take_all}
 use Rattle.std.proofs.lemmas.List.Sums.{sum_by_more, sum_by-take-le}
-use Rattle.cascade.specs.declared.row.Row.{Row}
-use Rattle.cascade.specs.Trees.{KeyTree, all_keys}
+use Rattle.orders.specs.declared.KeyOrder.{Ghosts}
+use Rattle.cascade.specs.Trees.{KeyTree}
 use Rattle.register.specs.Memory.{joined_lists}
 use Rattle.register.specs.declared.answers.Span.{Span}
-use Rattle.plan.specs.Laid.{Laid}
 use Rattle.plan.specs.declared.table.ListRun.{ListRun}
-use Rattle.plan.specs.declared.table.ListTable.{ListTable}
 use Rattle.walking.specs.Walked.{span_payloads, spans_payloads}
-use Rattle.walking.specs.Reached.{SpanOf, no_span}
-use Rattle.walking.proofs.Lying.{no_run, run_is}
+use Rattle.walking.specs.Reached.{SpanOf, Spanned, no_span}
+use Rattle.walking.specs.declared.walk.Cascade.{Cascade}
+use Rattle.walking.proofs.Lying.{no_run, first-is}
 
 folded-append : {A B : Type 0} (f : B → A → B) (a : B) (xs ys : List A) → fold f a (xs ++ ys) ≡ fold f (fold f a xs) ys
 folded-append f a [] ys = refl
@@ -65,40 +64,43 @@ module _ {P : Type 0} (neutral : P) (joined : P → P → P) (runs : List ListRu
             ∙ sym (ap (fold joined neutral) b ∙ folded-append joined neutral (between runs payloads i spans) (part_of runs payloads s));
       }
 
-module _ {K : Type 0} (order : K → K → Ordering) (t : KeyTree K) (table : ListTable) (keys : List K) (rows : List Row) (laid : Laid order t table keys rows) where
-  -- a list's payloads lie behind those of the lists before it
-  first-is : (v : ℕ) → v < length t → (get_or table.runs v no_run).first ≡ all_keys (take v t)
-  first-is v l = ap (λ r. r.first) (run_is order t table keys rows laid v l)
+module _ {K P : Type 0} {g : Ghosts K} (c : Cascade K P g) where
+  abbrev t : KeyTree K
+  t = c.layout.now.tree
 
-  pub record Held (payloads : ℕ) (s : Span) : Type 0 where
-    pub forward : from_of table.runs s ≤ to_of table.runs s
-    pub within : to_of table.runs s ≤ payloads
-    pub small : to_of table.runs s ≤ 40000
+  abbrev runs : List ListRun
+  runs = c.table.now.runs
 
-  pub span-held : (payloads : ℕ) (s : Span) → all_keys t ≤ payloads → SpanOf t s → Held payloads s
-  span-held payloads s h o =
+  pub record Held (s : Span) : Type 0 where
+    pub forward : from_of runs s ≤ to_of runs s
+    pub within : to_of runs s ≤ length c.payloads.now
+    pub small : to_of runs s ≤ 40000
+
+  pub span-held : (s : Span) → SpanOf t s → Held s
+  span-held s o =
       let f = o.forward in
       let w = o.within in
-      let n = laid.shaped.entries in
-      let first = first-is s.list o.there in
+      let n = c.laid.shaped.entries in
+      let h = c.laid.loaded in
+      let first = first-is c s.list o.there in
       let more = sum_by_more (λ b. length b.1) t s.list (0, []) o.there in
       let all = sum_by-take-le (λ b. length b.1) t (s.list + 1) in
       record { forward = omega arith; within = omega arith; small = omega arith }
 
-  part-is : {P : Type 0} (payloads : List P) (s : Span) → s.list < length t → part_of table.runs payloads s ≡ span_payloads t payloads s
-  part-is payloads s l =
-      let n : to_of table.runs s - from_of table.runs s ≡ s.after - s.first = omega arith in
-      ap₂ (λ m k. take m (drop k payloads)) n (ap (λ k. k + s.first) (first-is s.list l))
+  part-is : (s : Span) → s.list < length t → part_of runs c.payloads.now s ≡ span_payloads t c.payloads.now s
+  part-is s l =
+      let n : to_of runs s - from_of runs s ≡ s.after - s.first = omega arith in
+      ap₂ (λ m k. take m (drop k c.payloads.now)) n (ap (λ k. k + s.first) (first-is c s.list l))
 
-  parts_are : {P : Type 0} (payloads : List P) (spans : List Span) → ((i : ℕ) → i < length spans → (get_or spans i no_span).list < length t)
-      → map (part_of table.runs payloads) spans ≡ map (span_payloads t payloads) spans
-  parts_are payloads [] each = refl
-  parts_are payloads (s ∷ spans) each = ap₂ (λ x xs. x ∷ xs) (part-is payloads s (each 0 (omega arith))) (parts_are payloads spans (λ i l. each (suc i) (omega arith)))
+  parts_are : (spans : List Span) → ((i : ℕ) → i < length spans → SpanOf t (get_or spans i no_span))
+      → map (part_of runs c.payloads.now) spans ≡ map (span_payloads t c.payloads.now) spans
+  parts_are [] each = refl
+  parts_are (s ∷ spans) each = ap₂ (λ x xs. x ∷ xs) (part-is s (each 0 (omega arith)).there) (parts_are spans (λ i l. each (suc i) (omega arith)))
 
-  pub joined-all : {P : Type 0} (neutral : P) (joined : P → P → P) (payloads : List P) (spans : List Span) (i entries : ℕ) (payload : P)
-      → length spans ≤ i → ((i : ℕ) → i < length spans → (get_or spans i no_span).list < length t) → Joined neutral joined table.runs payloads spans i entries payload
-      → ◌≡◌ {A = ℕ × P} (entries, payload) (length (spans_payloads t payloads spans), fold joined neutral (spans_payloads t payloads spans))
-  joined-all neutral joined payloads spans i entries payload l each was =
-      let e : between table.runs payloads i spans ≡ spans_payloads t payloads spans =
-      ap (λ xs. joined_lists (map (part_of table.runs payloads) xs)) (take_all i spans l) ∙ ap joined_lists (parts_are payloads spans each) in
+  pub joined-all : (neutral : P) (joined : P → P → P) (spans : List Span) (i entries : ℕ) (payload : P)
+      → length spans ≤ i → Spanned t spans → Joined neutral joined runs c.payloads.now spans i entries payload
+      → ◌≡◌ {A = ℕ × P} (entries, payload) (length (spans_payloads t c.payloads.now spans), fold joined neutral (spans_payloads t c.payloads.now spans))
+  joined-all neutral joined spans i entries payload l spanned was =
+      let e : between runs c.payloads.now i spans ≡ spans_payloads t c.payloads.now spans =
+      ap (λ xs. joined_lists (map (part_of runs c.payloads.now) xs)) (take_all i spans l) ∙ ap joined_lists (parts_are spans spanned.each) in
       ap₂ (λ n p. (n, p)) (was.count ∙ ap length e) (was.all ∙ ap (fold joined neutral) e)

@@ -1,5 +1,5 @@
 -- Numbers that pass a test, in rising order.
-use Rattle.std.proofs.Common.{◌≡◌, ℕ, ◌+◌, ◌-◌, ◌≤◌, Bool, true, false, cond, [], ◌∷◌, ◌++◌, length, filter, sym, ap, ◌∙◌, arith}
+use Rattle.std.proofs.Common.{◌≡◌, ℕ, zero, suc, ◌+◌, ◌-◌, ◌<◌, ◌≤◌, Bool, true, false, cond, List, [], ◌∷◌, ◌++◌, map, length, filter, sym, refl, ap, ◌∙◌, ap₂, arith}
 use Rattle.std.specs.List.{range_with_len}
 use Rattle.std.proofs.lemmas.List.FromFn.{map-range_with_len_more}
 use Rattle.std.proofs.lemmas.List.Elements.{filter-append}
@@ -25,3 +25,16 @@ module _ (p : ℕ → Bool) where
       let e : v + (n - v) ≡ n = omega arith in
       let c = ap (λ m. length (filter p (range_with_len 0 m))) e in
       omega (arith, length-kept p (range_with_len 0 v), length-kept p (range_with_len 0 (v + (n - v))), count-split p 0 v (n - v))
+
+-- maps that agree on the numbers that pass
+pub map-kept : {Y : Type 0} (p : ℕ → Bool) (f g : ℕ → Y) (a n : ℕ) → ((v : ℕ) → a ≤ v → v < a + n → p v ≡ true → f v ≡ g v)
+    → map f (filter p (range_with_len a n)) ≡ map g (filter p (range_with_len a n))
+map-kept p f g a zero h = refl
+map-kept p f g a (suc n) h = go (p a) refl (map-kept p f g (a + 1) n (λ v k l e. h v (omega arith) (omega arith) e))
+  where
+    rest : List ℕ
+    rest = filter p (range_with_len (a + 1) n)
+
+    go : (b : Bool) → p a ≡ b → map f rest ≡ map g rest → map f (cond b (a ∷ rest) rest) ≡ map g (cond b (a ∷ rest) rest)
+    go true e ih = ap₂ (λ y ys. y ∷ ys) (h a (omega arith) (omega arith) e) ih
+    go false e ih = ih

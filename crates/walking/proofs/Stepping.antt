@@ -1,6 +1,7 @@
 -- The step along an edge as a loop: what is left of it gives the whole.
-use Rattle.std.proofs.Common.{◌≡◌, ℕ, zero, suc, ◌+◌, ◌*◌, ◌<◌, ◌≤◌, Bool, true, false, List, [], ◌∷◌, length, get_or, drop, sym, refl, ap, ◌∙◌, ap₂, arith}
-use Rattle.std.proofs.lemmas.List.{drop_more, drop_all}
+use Rattle.std.proofs.Common.{◌≡◌, ℕ, zero, suc, ◌+◌, ◌-◌, ◌*◌, ◌<◌, ◌≤◌, min, Bool, true, false, List, [], ◌∷◌, length, get_or, take, drop, sym, refl, ap, ◌∙◌, ap₂, inl, inr, arith}
+use Rattle.std.proofs.lemmas.Bool.{cases_lt}
+use Rattle.std.proofs.lemmas.List.{length-take-le, length-drop, get_or-take, get_or-drop, drop_more, drop_all}
 use Rattle.cascade.specs.Searches.{steps, edge_step}
 
 module _ {X : Type 0} (f : X → Bool) (xs : List X) where
@@ -51,3 +52,27 @@ module _ {X : Type 0} (f : X → Bool) (xs : List X) where
         let at : from + n + 1 ≡ from + (n + 1) = omega arith in
         ap (λ r. (from + n + r.0, n + r.1)) s ∙ ap₂ (λ a b. (a, b)) p q
         ∙ ap (λ p. (p + (steps f k (drop p xs)).0, n + 1 + (steps f k (drop p xs)).1)) at
+
+  -- the keys in reach from a place on, a part that begins at lo and ends before hi
+  module _ (from lo hi : ℕ) (a : lo ≡ min from (length xs)) (b : hi ≡ min (from + 3) (length xs)) where
+    abbrev pub near : List X
+    near = take (hi - lo) (drop lo xs)
+
+    near-long : length near ≡ hi - lo
+    near-long = length-take-le (hi - lo) (drop lo xs) (omega (arith, length-drop lo xs))
+
+    pub near-reads : (n : ℕ) (x : X) → n < length near → x ≡ get_or near n x → (n < 3) × (from + n < length xs) × (x ≡ get_or xs (from + n) x)
+    near-reads n x h r =
+        let k = near-long in
+        let e : lo ≡ from = omega arith in
+        (omega arith, omega arith, r ∙ get_or-take (hi - lo) (drop lo xs) n x (omega arith) ∙ get_or-drop lo xs n x ∙ ap (λ j. get_or xs (j + n) x) e)
+
+    pub near-end : stepped from (length near) (3 - length near) ≡ (from + length near, length near)
+    near-end =
+        let k = near-long in
+        elim (cases_lt (from + length near) (length xs)) [
+          | inl h ↦
+              let e : length near ≡ 3 = omega arith in
+              ap (λ m. stepped from m (3 - m)) e ∙ stepped-all from 3 ∙ ap (λ m. (from + m, m)) (sym e)
+          | inr h ↦ stepped-past from (length near) (3 - length near) h
+        ]

@@ -1,3 +1,4 @@
+pub mod InMemory
 pub mod Walked
 pub mod Reached
 pub mod Between

@@ -1,12 +1,22 @@
--- What the steps of a walk ask: that a list lies in memory, that a place is one of its augmented list's, that spans hold
--- entries.
-use Rattle.std.specs.Prelude.{◌≡◌, ℕ, ◌<◌, ◌≤◌, List, length, slice_index_or}
-use Rattle.std.specs.declared.cmp.Ordering.{Ordering}
-use Rattle.cascade.specs.Trees.{KeyTree, parent_of, keys_at, path, all_keys, augmented}
+-- What the steps of a walk come to and ask: arrivals, paths, spans that hold entries.
+use Rattle.std.specs.Prelude.{◌≡◌, ℕ, ◌-◌, ◌<◌, ◌≤◌, List, length, slice_index_or}
+use Rattle.cascade.specs.Trees.{KeyTree, keys_at, path}
 use Rattle.register.specs.Answers.{span}
 use Rattle.register.specs.declared.answers.Span.{Span}
-use Rattle.walking.specs.Walked.{LaidIn}
-use Rattle.walking.specs.declared.walk.Cascade.{Cascade}
+use Rattle.walking.specs.declared.search.Arrival.{Arrival}
+
+-- a place and the comparisons to find it
+abbrev pub arrived : ℕ × ℕ → Arrival
+arrived r = record { place = r.0; comparisons = r.1 }
+
+-- the last of some lists
+abbrev pub end_of : List ℕ → ℕ
+end_of lists = slice_index_or lists (length lists - 1) 0
+
+-- the path to their last
+pub record IsPath {K : Type 0} (t : KeyTree K) (lists : List ℕ) : Type 0 where
+  pub there : end_of lists < length t
+  pub is : lists ≡ path t (end_of lists)
 
 -- entries of a list
 pub record SpanOf {K : Type 0} (t : KeyTree K) (s : Span) : Type 0 where
@@ -17,34 +27,7 @@ pub record SpanOf {K : Type 0} (t : KeyTree K) (s : Span) : Type 0 where
 abbrev pub no_span : Span
 no_span = span 0 0 0
 
-module _ {K : Type 0} (order : K → K → Ordering) (c : Cascade K) where
-  -- an augmented place of a list
-  pub record Placed (list place : ℕ) : Type 0 where
-    pub tree : KeyTree K
-    pub laid : LaidIn order c tree
-    pub there : list < length tree
-    pub within : place ≤ length (augmented order tree list)
-
-  -- a list below the root, and an augmented place of its parent
-  pub record Below (list above : ℕ) : Type 0 where
-    pub tree : KeyTree K
-    pub laid : LaidIn order c tree
-    pub there : list < length tree
-    pub below : 0 < list
-    pub within : above ≤ length (augmented order tree (parent_of tree list))
-
-  -- the path to a list
-  pub record Along (lists : List ℕ) : Type 0 where
-    pub tree : KeyTree K
-    pub laid : LaidIn order c tree
-    pub end : ℕ
-    pub there : end < length tree
-    pub is : lists ≡ path tree end
-
-  -- spans of lists whose payloads lie in a memory of so many places
-  pub record Spanned (payloads : ℕ) (spans : List Span) : Type 0 where
-    pub tree : KeyTree K
-    pub laid : LaidIn order c tree
-    pub held : all_keys tree ≤ payloads
-    pub few : length spans ≤ 127
-    pub each : (i : ℕ) → i < length spans → SpanOf tree (slice_index_or spans i no_span)
+-- entries of lists, in no more spans than the sieve has lists
+pub record Spanned {K : Type 0} (t : KeyTree K) (spans : List Span) : Type 0 where
+  pub few : length spans ≤ 127
+  pub each : (i : ℕ) → i < length spans → SpanOf t (slice_index_or spans i no_span)

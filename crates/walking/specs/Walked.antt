@@ -1,9 +1,8 @@
 -- What walks over laid-down lists answer.
-use Rattle.std.specs.Prelude.{ℕ, ◌+◌, ◌-◌, ◌<◌, ◌≤◌, List, map, length, take, drop, fold}
+use Rattle.std.specs.Prelude.{ℕ, ◌+◌, ◌-◌, List, map, length, take, drop, fold}
 use Rattle.std.specs.declared.cmp.Ordering.{Ordering}
 use Rattle.orders.specs.declared.side.Side.{Side}
 use Rattle.orders.specs.declared.side.Side.TheVariants.{Low, High}
-use Rattle.cascade.specs.declared.row.Row.{Row}
 use Rattle.cascade.specs.Trees.{KeyTree, path, all_keys}
 use Rattle.cascade.specs.Walks as walks
 use Rattle.cascade.specs.Walks.{walked_place}
@@ -13,34 +12,6 @@ use Rattle.register.specs.Answers.{stop, span, filled_up}
 use Rattle.register.specs.declared.answers.Lookup.{Lookup}
 use Rattle.register.specs.declared.answers.Offer.{Offer}
 use Rattle.register.specs.declared.answers.Span.{Span}
-use Rattle.plan.specs.Laid.{Laid}
-use Rattle.plan.specs.declared.table.ListTable.{ListTable}
-use Rattle.walking.specs.declared.walk.Cascade.{Cascade}
-
--- some lists lie in memory with their table, and one of them is list `end`
-pub record Walkable {K : Type 0} (order : K → K → Ordering) (table : ListTable) (keys : List K) (rows : List Row) (end : ℕ) : Type 0 where
-  pub tree : KeyTree K
-  pub laid : Laid order tree table keys rows
-  pub there : end < length tree
-
--- and payload memory has a place for each of their entries
-pub record Offerable {K : Type 0} (order : K → K → Ordering) (table : ListTable) (keys : List K) (rows : List Row) (payloads end : ℕ) : Type 0 where
-  pub tree : KeyTree K
-  pub laid : Laid order tree table keys rows
-  pub there : end < length tree
-  pub held : all_keys tree ≤ payloads
-
-module _ {K : Type 0} (order : K → K → Ordering) (c : Cascade K) where
-  -- the lists t lie in the memory that a walk reads
-  abbrev pub LaidIn : KeyTree K → Type 0
-  LaidIn t = Laid order t c.table.now c.keys.now c.rows.now
-
-  abbrev pub WalkableIn : ℕ → Type 0
-  WalkableIn end = Walkable order c.table.now c.keys.now c.rows.now end
-
-  -- P of all lists that lie there and of which one is list `end`
-  abbrev pub WhereLaid : (end : ℕ) → (KeyTree K → Type 0) → Type 0
-  WhereLaid end P = (t : KeyTree K) → LaidIn t → end < length t → P t
 
 module _ {K : Type 0} (order : K → K → Ordering) (t : KeyTree K) where
   -- a lookup that ends at list w

@@ -1,17 +1,22 @@
-// The two searches of a list of keys for the first place that is not passed. Each answers the place and the number of
-// comparisons.
+// The two searches of a list of keys for the first place that is not passed.
 ghost use Rattle.std.specs.Prelude.{◌≡◌};
 ghost use Rattle.orders.specs.Places.{passed};
 ghost use Rattle.cascade.specs.Searches.{root_search, edge_step};
+ghost use Rattle.walking.specs.Reached.{arrived};
 
 use orders::KeyOrder;
 use orders::side::Side;
-
-// Every so many keys of a list one is a sample.
-const SAMPLE_STEP: usize = 4;
+use register::limits::SAMPLE_STEP;
 
 // How many keys lie between two samples.
-const MOST_STEPS: usize = 3;
+const MOST_STEPS: usize = SAMPLE_STEP - 1;
+
+// A place, and how many keys were compared to find it.
+#[derive(Clone, Copy, PartialEq, Eq, Default, Debug)]
+pub struct Arrival {
+    pub place: usize,
+    pub comparisons: usize,
+}
 
 // Whether a key is passed on the way to a sought key.
 fn is_passed<K: KeyOrder>(key: &K, sought: &K, side: Side) -> bool
@@ -24,9 +29,9 @@ fn is_passed<K: KeyOrder>(key: &K, sought: &K, side: Side) -> bool
     }
 }
 
-// The root search, by halving.
-pub fn root_search<K: KeyOrder>(keys: &[K], sought: &K, side: Side) -> (usize, usize)
-    ensures { result ≡ root_search (passed K.order side sought.now) keys.now }
+// The root search, by halving. The library's binary search does not say how many keys it compares.
+pub fn root_search<K: KeyOrder>(keys: &[K], sought: &K, side: Side) -> Arrival
+    ensures { result ≡ arrived (root_search (passed K.order side sought.now) keys.now) }
 {
     let mut lo = 0;
     let mut hi = keys.len();
@@ -40,21 +45,29 @@ pub fn root_search<K: KeyOrder>(keys: &[K], sought: &K, side: Side) -> (usize, u
             hi = mid;
         }
     }
-    (lo, comparisons)
+    Arrival {
+        place: lo,
+        comparisons,
+    }
 }
 
 // The step along an edge: `samples` of the list's samples are passed, so the place is at most three keys behind them.
-pub fn edge_step<K: KeyOrder>(keys: &[K], samples: u32, sought: &K, side: Side) -> (usize, usize)
-    ensures { result ≡ edge_step (passed K.order side sought.now) samples keys.now }
+pub fn edge_step<K: KeyOrder>(keys: &[K], samples: u32, sought: &K, side: Side) -> Arrival
+    ensures { result ≡ arrived (edge_step (passed K.order side sought.now) samples keys.now) }
 {
     let from = SAMPLE_STEP * samples as usize;
-    for n in 0..MOST_STEPS {
-        if from + n >= keys.len() {
-            return (from + n, n);
-        }
-        if !is_passed(&keys[from + n], sought, side) {
-            return (from + n, n + 1);
+    // The keys in reach, none where `from` is past the end.
+    let near = &keys[from.min(keys.len())..(from + MOST_STEPS).min(keys.len())];
+    for (n, key) in near.iter().enumerate() {
+        if !is_passed(key, sought, side) {
+            return Arrival {
+                place: from + n,
+                comparisons: n + 1,
+            };
         }
     }
-    (from + MOST_STEPS, MOST_STEPS)
+    Arrival {
+        place: from + near.len(),
+        comparisons: near.len(),
+    }
 }

@@ -1,108 +1,122 @@
 // Lookups along a path.
-ghost use Rattle.std.specs.Prelude.{◌≡◌, ℕ, ◌-◌, ◌<◌, ◌≤◌, length, take, drop};
-ghost use Rattle.cascade.specs.Trees.{KeyTree, keys_of, own_source, parent_of, path, augmented};
+ghost use Rattle.std.specs.Prelude.{◌≡◌, ◌<◌, ◌≤◌, length, drop};
+ghost use Rattle.cascade.specs.Trees.{keys_of, own_source, parent_of, path, augmented};
 ghost use Rattle.cascade.specs.Rows.{row_at, tally};
-ghost use Rattle.cascade.specs.Walks.{root_arrival, edge_arrival};
-ghost use Rattle.plan.specs.Laid.{Laid};
-ghost use Rattle.walking.specs.Walked.{Walkable, LaidIn, WalkableIn, WhereLaid, looked_up};
-ghost use Rattle.walking.specs.Reached.{Placed, Below, Along};
+ghost use Rattle.cascade.specs.Walks.{arrival};
+ghost use Rattle.walking.specs.InMemory.{InMemory, in_memory_once};
+ghost use Rattle.walking.specs.Walked.{looked_up};
+ghost use Rattle.walking.specs.Reached.{arrived, end_of, IsPath};
 
-use crate::search::{edge_step, root_search};
+use crate::search::{Arrival, edge_step, root_search};
 use cascade::row::Row;
+use layout::Layout;
 use orders::KeyOrder;
 use orders::side::Side;
 use plan::table::ListTable;
 use register::answers::{Lookup, Stop};
 use register::limits::MOST_STOPS;
 
-// What a walk reads: the list table, and key and row memory.
-#[derive(Clone, Copy)]
-pub struct Cascade<'a, K> {
+// What a walk reads: the list table, key, row and payload memory, and the layout of the lists that lie there. The layout takes
+// no part at run time: its type says whose augmented lists they are.
+#[derive(Drop)]
+pub struct Cascade<'a, K: KeyOrder, P> {
     pub table: &'a ListTable,
     pub keys: &'a [K],
     pub rows: &'a [Row],
+    pub payloads: &'a [P],
+    pub layout: &'a Layout<K>,
+    pub ghost laid: { InMemory layout.now.tree layout.now.augmented table.now keys.now rows.now payloads.now } by { in_memory_once layout.now.tree layout.now.augmented table.now keys.now rows.now payloads.now K.code },
 }
 
-impl<'a, K: KeyOrder> Cascade<'a, K> {
+// The lists from the root to a list, at the end of an array.
+#[derive(Clone, Copy)]
+pub(crate) struct Path {
+    lists: [usize; MOST_STOPS],
+    from: usize,
+    ghost inside: { from ≤ 9 },
+}
+
+impl Path {
+    pub(crate) fn lists(&self) -> &[usize]
+        ensures { result.now ≡ drop self.now.from self.now.lists }
+    {
+        &self.lists[self.from..]
+    }
+}
+
+impl<'a, K: KeyOrder, P> Cascade<'a, K, P> {
     // The keys of a list's augmented list.
-    fn keys_of(self, list: usize) -> &'a [K]
-        requires { WalkableIn K.order self list }
-        ensures { WhereLaid K.order self.entry list (λ t. result.now ≡ keys_of (augmented K.order t list)) }
+    fn keys_of(&self, list: usize) -> &[K]
+        requires { list < length self.now.layout.now.tree }
+        ensures { result.now ≡ keys_of (augmented K.order self.now.layout.now.tree list) }
     {
         let run = self.table.runs[list];
-        let start = run.start;
-        let end = start + run.length;
-        &self.keys[start..end]
+        &self.keys[run.start..run.start + run.length]
     }
 
     // The row of a list's augmented place.
-    fn row(self, list: usize, place: usize) -> Row
-        requires { Placed K.order self list place }
-        ensures { WhereLaid K.order self.entry list (λ t. place ≤ length (augmented K.order t list) → result ≡ row_at place (augmented K.order t list)) }
+    fn row(&self, list: usize, place: usize) -> Row
+        requires there { list < length self.now.layout.now.tree }
+        requires within { place ≤ length (augmented K.order self.now.layout.now.tree list) }
+        ensures { result ≡ row_at place (augmented K.order self.now.layout.now.tree list) }
     {
         self.rows[self.table.runs[list].start + list + place]
     }
 
     // The place in a list at its augmented place: how many of the keys in front are its own.
-    pub(crate) fn own_place(self, list: usize, place: usize) -> usize
-        requires { Placed K.order self list place }
-        ensures { WhereLaid K.order self.entry list (λ t. place ≤ length (augmented K.order t list) → result ≡ tally own_source place (augmented K.order t list)) }
+    pub(crate) fn own_place(&self, list: usize, place: usize) -> usize
+        requires there { list < length self.now.layout.now.tree }
+        requires within { place ≤ length (augmented K.order self.now.layout.now.tree list) }
+        ensures { result ≡ tally own_source place (augmented K.order self.now.layout.now.tree list) }
     {
         self.row(list, place).own as usize
     }
 
-    // The augmented place in the root, and the comparisons to find it.
-    pub(crate) fn at_root(self, key: &K, side: Side) -> (usize, usize)
-        requires { WalkableIn K.order self 0 }
-        ensures { WhereLaid K.order self.entry 0 (λ t. result ≡ root_arrival K.order t side key.now) }
+    // The augmented place of a key in a list: in the root by a search, in any other by a step from its place in the parent.
+    pub(crate) fn arrive(&self, list: usize, above: usize, key: &K, side: Side) -> Arrival
+        requires there { list < length self.now.layout.now.tree }
+        requires from_parent { 0 < list → above ≡ (arrival K.order self.now.layout.now.tree side key.now (parent_of self.now.layout.now.tree list)).0 }
+        ensures { result ≡ arrived (arrival K.order self.now.layout.now.tree side key.now list) }
     {
-        root_search(self.keys_of(0), key, side)
-    }
-
-    // The augmented place in a list, from the one in its parent, and the comparisons to find it.
-    pub(crate) fn step_into(self, list: usize, above: usize, key: &K, side: Side) -> (usize, usize)
-        requires { Below K.order self list above }
-        ensures { WhereLaid K.order self.entry list (λ t. 0 < list → above ≤ length (augmented K.order t (parent_of t list)) → result ≡ edge_arrival K.order t side key.now list above) }
-    {
+        let keys = self.keys_of(list);
+        if list == 0 {
+            return root_search(keys, key, side);
+        }
         let run = self.table.runs[list];
         let row = self.row(run.parent, above);
-        edge_step(self.keys_of(list), row.children[run.ordinal], key, side)
+        edge_step(keys, row.children[run.ordinal], key, side)
     }
 
-    // The lists from the root to a list: they stand from a place on to the end of an array.
-    pub(crate) fn path_to(self, end: usize) -> ([usize; MOST_STOPS], usize)
-        requires { WalkableIn K.order self end }
-        ensures result_bound { result.1 ≤ 9 }
-        ensures where_laid { WhereLaid K.order self.entry end (λ t. take (9 - result.1) (drop result.1 result.0) ≡ path t end) }
+    // The lists from the root to a list, found from its end.
+    pub(crate) fn path_to(&self, end: usize) -> Path
+        requires { end < length self.now.layout.now.tree }
+        ensures { drop result.from result.lists ≡ path self.now.layout.now.tree end }
     {
         let mut lists = [0; MOST_STOPS];
         let mut from = MOST_STOPS - 1;
         let mut list = end;
         lists[from] = list;
+        // By parents, in whose order the lists stand nowhere yet.
         while list > 0 {
             list = self.table.runs[list].parent;
             from -= 1;
             lists[from] = list;
         }
-        (lists, from)
+        Path { lists, from }
     }
 
     // A lookup along the lists of a path.
-    pub(crate) fn walk(self, lists: &[usize], key: &K, side: Side) -> Lookup
-        requires { Along K.order self lists.now }
-        ensures { (t : KeyTree K) (end : ℕ) → LaidIn K.order self.entry t → end < length t → lists.now ≡ path t end → result ≡ looked_up K.order t end side key.now }
+    pub(crate) fn walk(&self, lists: &[usize], key: &K, side: Side) -> Lookup
+        requires { IsPath self.now.layout.now.tree lists.now }
+        ensures { result ≡ looked_up K.order self.now.layout.now.tree (end_of lists.now) side key.now }
     {
-        let mut stops = [Stop { list: 0, place: 0 }; MOST_STOPS];
-        let (mut at, mut comparisons) = self.at_root(key, side);
-        stops[0] = Stop {
-            list: 0,
-            place: self.own_place(0, at),
-        };
-        for i in 1..lists.len() {
-            let list = lists[i];
-            let (next, more) = self.step_into(list, at, key, side);
-            at = next;
-            comparisons += more;
+        let mut stops = [Stop::default(); MOST_STOPS];
+        let mut at = 0;
+        let mut comparisons = 0;
+        for (i, &list) in lists.iter().enumerate() {
+            let next = self.arrive(list, at, key, side);
+            at = next.place;
+            comparisons += next.comparisons;
             stops[i] = Stop {
                 list,
                 place: self.own_place(list, at),
@@ -116,11 +130,10 @@ impl<'a, K: KeyOrder> Cascade<'a, K> {
     }
 
     // A lookup: from the root to list `end`, each list with the place of the key in it.
-    pub fn look_up(self, end: usize, key: &K, side: Side) -> Lookup
-        requires { Walkable K.order self.table.now self.keys.now self.rows.now end }
-        ensures { (t : KeyTree K) → Laid K.order t self.entry.table.now self.entry.keys.now self.entry.rows.now → end < length t → result ≡ looked_up K.order t end side key.now }
+    pub fn look_up(&self, end: usize, key: &K, side: Side) -> Lookup
+        requires { end < length self.now.layout.now.tree }
+        ensures { result ≡ looked_up K.order self.now.layout.now.tree end side key.now }
     {
-        let (lists, from) = self.path_to(end);
-        self.walk(&lists[from..MOST_STOPS], key, side)
+        self.walk(self.path_to(end).lists(), key, side)
     }
 }

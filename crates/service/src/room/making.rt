@@ -1,11 +1,7 @@
 // Making room, and laying an index down in it.
 ghost use Rattle.std.specs.Prelude.{◌≡◌, IfOk};
-ghost use Rattle.index.specs.Held.{machine_of};
-ghost use Rattle.layout.specs.KeyTrees.{key_tree};
-ghost use Rattle.register.specs.Answers.{map_ok};
-ghost use Rattle.register.specs.Questions.{unless, build_fault};
 ghost use Rattle.shelves.specs.Kinds.{stored_of};
-ghost use Rattle.terms.specs.Order.{term_order};
+ghost use Rattle.service.specs.Building.{Builds};
 ghost use Rattle.service.specs.Rooms.{sizes_of, sizes_for};
 
 use crate::fillers::some_term;
@@ -28,14 +24,10 @@ impl Room {
         let payloads = entries.min(MOST_ENTRIES);
         let keys = payloads + payloads / 3;
         let rows = keys + lists.min(MOST_LISTS);
-        let no_row = Row {
-            own: 0,
-            children: [0; 4],
-        };
         Ok(Room {
             keys: vec![in heap; some_term(); keys]?,
-            rows: vec![in heap; no_row; rows]?,
-            payloads: vec![in heap; Marks { bits: 0 }; payloads]?,
+            rows: vec![in heap; Row::default(); rows]?,
+            payloads: vec![in heap; Marks::default(); payloads]?,
         })
     }
 
@@ -44,7 +36,7 @@ impl Room {
         &'m mut self,
         shelf: &Stored<'_, Term, Marks>,
     ) -> Result<Index<'m, Term, Marks>, Fault>
-        ensures { map_ok (λ i. (machine_of i).register) result ≡ unless (build_fault term_order (key_tree (stored_of shelf.now)) (sizes_of self.old)) (stored_of shelf.now) }
+        ensures { Builds (stored_of shelf.now) (sizes_of self.old) result }
     {
         let mut index = Index::set_up(
             self.keys.as_mut_slice(),

@@ -1,14 +1,14 @@
 // Asking a tree. Whoever asks often makes room once, and asks one index.
+ghost use Rattle.std.specs.Fn.{FnOnceReturnsAt};
 ghost use Rattle.std.specs.Prelude.{◌≡◌, IfOk};
 ghost use Rattle.index.specs.Counts.{LookupCounts, OfferCounts};
-ghost use Rattle.index.specs.Held.{machine_of};
 ghost use Rattle.layout.specs.KeyTrees.{key_tree};
-ghost use Rattle.register.specs.Answers.{map_ok, lookup_read, offer_read};
-ghost use Rattle.register.specs.Questions.{unless, build_fault, lists_fault};
+ghost use Rattle.register.specs.Answers.{lookup_read, offer_read};
 ghost use Rattle.register.specs.Register.{look_up_answer, offer_answer};
 ghost use Rattle.terms.specs.Order.{term_order};
 ghost use Rattle.terms.specs.Unions.{no_marks, union_of_marks};
-ghost use Rattle.service.specs.Asked.{Answers, asked};
+ghost use Rattle.service.specs.Asked.{Answers, Asks, asked};
+ghost use Rattle.service.specs.Building.{Builds, BuildsAmply};
 ghost use Rattle.service.specs.Rooms.{sizes_of};
 ghost use Rattle.service.specs.Trees.{register_of, room_of};
 
@@ -33,13 +33,27 @@ impl Tree {
 
     // An index of the tree, or the refusal of its build. The tree's own room is never too small.
     pub fn index<'m>(&self, room: &'m mut Room) -> Result<Index<'m, Term, Marks>, Fault>
-        ensures answer { map_ok (λ i. (machine_of i).register) result ≡ unless (build_fault term_order (key_tree (register_of self.now)) (sizes_of room.old)) (register_of self.now) }
-        ensures ample { sizes_of room.old ≡ room_of self.now → map_ok (λ i. (machine_of i).register) result ≡ unless (lists_fault term_order (key_tree (register_of self.now))) (register_of self.now) }
+        ensures answer { Builds (register_of self.now) (sizes_of room.old) result }
+        ensures ample { sizes_of room.old ≡ room_of self.now → BuildsAmply (register_of self.now) result }
     {
         room.index(&self.shelf())
     }
 
-    // Where a key stands in each list from the root to an end list, by an index that is built for it.
+    // What a question comes to, asked of an index that is built for it.
+    pub fn ask<T, F: FnOnce(&Index<'_, Term, Marks>) -> Result<T, Fault>>(
+        &self,
+        heap: Global,
+        question: F,
+    ) -> Result<T, Refusal>
+        requires { F.IsAlwaysCallable question }
+        ensures { Asks (register_of self.now) (λ index answer. FnOnceReturnsAt F.FnOnce question index answer) result }
+    {
+        let mut room = self.room(heap)?;
+        let index = self.index(&mut room)?;
+        Ok(question(&index)?)
+    }
+
+    // Where a key stands in each list from the root to an end list.
     pub fn look_up(
         &self,
         heap: Global,
@@ -50,18 +64,14 @@ impl Tree {
         ensures answer { Answers lookup_read (asked (register_of self.now) (λ reg. look_up_answer term_order reg list side key.now)) result }
         ensures counts { IfOk result (λ l. LookupCounts term_order (key_tree (register_of self.now)) list side key.now l.comparisons) }
     {
-        let mut room = self.room(heap)?;
-        let index = self.index(&mut room)?;
-        Ok(index.look_up(list, key, side)?)
+        self.ask(heap, |index| index.look_up(list, key, side))
     }
 
-    // The entries from the root to an end list that have a key, by an index that is built for it.
+    // The entries from the root to an end list that have a key.
     pub fn offer(&self, heap: Global, list: usize, key: &Term) -> Result<Offer<Marks>, Refusal>
         ensures answer { Answers offer_read (asked (register_of self.now) (λ reg. offer_answer term_order no_marks union_of_marks reg list key.now)) result }
         ensures counts { IfOk result (λ o. OfferCounts term_order (key_tree (register_of self.now)) list key.now o.comparisons) }
     {
-        let mut room = self.room(heap)?;
-        let index = self.index(&mut room)?;
-        Ok(index.offer(list, key)?)
+        self.ask(heap, |index| index.offer(list, key))
     }
 }

@@ -1,4 +1,4 @@
-// Verdicts and job counts on a tree, by an index that is built for them.
+// Verdicts and job counts on a tree.
 ghost use Rattle.jobs.specs.Verdicts.{verdict_answer};
 ghost use Rattle.service.specs.Asked.{Answers, asked};
 ghost use Rattle.service.specs.Jobs.{TreeCounts};
@@ -17,17 +17,13 @@ impl Tree {
     pub fn judge(&self, heap: Global, list: usize, key: &Term) -> Result<Verdict, Refusal>
         ensures { Answers (λ v. v) (asked (register_of self.now) (λ reg. verdict_answer reg list key.now)) result }
     {
-        let mut room = self.room(heap)?;
-        let index = self.index(&mut room)?;
-        Ok(verdict(&index, list, key)?)
+        self.ask(heap, |index| verdict(index, list, key))
     }
 
     // The count of a sheet at an end list.
     pub fn count_job(&self, heap: Global, list: usize, sheet: &[u8]) -> Result<JobCount, Refusal>
         ensures { TreeCounts (register_of self.now) list sheet.now result }
     {
-        let mut room = self.room(heap)?;
-        let index = self.index(&mut room)?;
-        Ok(count_job(&index, list, sheet)?)
+        self.ask(heap, |index| count_job(index, list, sheet))
     }
 }

@@ -21,15 +21,11 @@ impl Tree {
         ensures { TreeLoads file.now result }
     {
         let needed = check(file)?;
-        let no_list = ListRow {
-            parent: 0,
-            count: 0,
-        };
         let no_entry = Entry {
             key: some_term(),
-            payload: Marks { bits: 0 },
+            payload: Marks::default(),
         };
-        let mut lists = vec![in heap; no_list; needed.lists]?;
+        let mut lists = vec![in heap; ListRow::default(); needed.lists]?;
         let mut entries = vec![in heap; no_entry; needed.entries]?;
         load(file, lists.as_mut_slice(), entries.as_mut_slice())?;
         Ok(Tree { lists, entries })

@@ -3,7 +3,6 @@ ghost use Rattle.std.specs.Prelude.{◌≡◌, ◌+◌, ◌≤◌, length};
 ghost use Rattle.treefiles.specs.Steps.{TakesField, Reads, Opens, Begun, counts_of};
 
 use crate::field::{BEFORE_BODY, Field};
-use crate::fields::{closing_in, entry_in, list_in};
 use crate::item::Item;
 use crate::loaded::Loaded;
 use crate::loader::Loader;
@@ -33,8 +32,10 @@ impl<'f> Loader<'f> {
             file,
             at: HEAD.len(),
             stage: Stage::Opening,
-            lists: 0,
-            entries: 0,
+            loaded: Loaded {
+                lists: 0,
+                entries: 0,
+            },
         }
     }
 
@@ -42,10 +43,7 @@ impl<'f> Loader<'f> {
     pub fn loaded(&self) -> Loaded
         ensures { result ≡ counts_of self.now }
     {
-        Loaded {
-            lists: self.lists,
-            entries: self.entries,
-        }
+        self.loaded
     }
 
     // What the next field says, nothing at the end of the file, or the refusal. Only a field that is taken moves
@@ -57,34 +55,31 @@ impl<'f> Loader<'f> {
         if self.stage.has_ended(rest) {
             return Ok(None);
         }
-        let Some(field) = Field::first(rest) else {
-            return Err(Fault::new(Reason::FieldIncomplete, self.at, 0));
-        };
-        let item = self.take(field)?;
-        Ok(Some(item))
+        let incomplete = Fault::new(Reason::FieldIncomplete, self.at, 0);
+        let field = Field::first(self.at, rest).ok_or(incomplete)?;
+        self.take(field).map(Some)
     }
 
     // Takes a field: may its tag come now, does its length suit the tag, is what it says right.
     fn take(&mut self, field: Field) -> Result<Item, Fault>
-        requires { self.old.at + (3 + length field.body.now) ≤ length self.old.file.now }
+        requires within { self.old.at + (3 + length field.body.now) ≤ length self.old.file.now }
+        requires begins { field.at ≡ self.old.at }
         ensures { TakesField self.old self.new field.entry.tag field.entry.body.now result }
     {
-        let item = match (self.stage, field.tag as char) {
-            (Stage::Opening | Stage::List | Stage::Entry, 'L') => {
-                list_in(self.stage, self.at, field.body)?
-            }
-            (Stage::List | Stage::Entry, 'E') => entry_in(self.at, field.body)?,
-            (Stage::List | Stage::Entry, 'Z') => closing_in(self.entries, self.at, field.body)?,
-            _ => return Err(Fault::new(Reason::FieldNotAllowed, self.at, 0)),
+        let item = match (self.stage, char::from(field.tag)) {
+            (Stage::Opening | Stage::List | Stage::Entry, 'L') => field.list(self.stage)?,
+            (Stage::List | Stage::Entry, 'E') => field.entry()?,
+            (Stage::List | Stage::Entry, 'Z') => field.closing(self.loaded.entries)?,
+            _ => return Err(field.refusal(Reason::FieldNotAllowed)),
         };
         self.at += BEFORE_BODY + field.body.len();
         match item {
             Item::List(_) => {
-                self.lists += 1;
+                self.loaded.lists += 1;
                 self.stage = Stage::List;
             }
             Item::Entry(_) => {
-                self.entries += 1;
+                self.loaded.entries += 1;
                 self.stage = Stage::Entry;
             }
             Item::Closing => self.stage = Stage::Closing,

@@ -1,70 +1,36 @@
-use Rattle.std.proofs.Common.{ℕ, ◌<◌, ◌≤◌, length, Ok, Err, Result, sym, ap, ◌∙◌, subst, arith}
+use Rattle.std.proofs.Common.{Err, ap, ◌∙◌, rules}
+use Rattle.std.proofs.lemmas.List.Elements.{All-from_get_or}
 use Rattle.std.proofs.lemmas.Result.{err_from_is_err_and}
-use Rattle.faults.specs.Refusals.{fault}
 use Rattle.faults.specs.declared.Fault.{Fault}
-use Rattle.faults.specs.declared.Reason.TheVariants.{LoadMemoryShort}
-use Rattle.treefiles.specs.Format.{all_entries}
-use Rattle.treefiles.specs.Loading.{answer, Loads}
-use Rattle.treefiles.specs.declared.loaded.Loaded.{Loaded}
-use Rattle.treefiles.proofs.Closing.{Bytes}
-use Rattle.treefiles.proofs.Promise.{checked-tree, checked-fault, few-lists, few-entries, refuses, grants}
+use Rattle.treefiles.proofs.Closing.{IsByte, Bytes}
+use Rattle.treefiles.proofs.Promise.{check-refuses, lists-refuse, entries-refuse, room-found, fills}
 use Rattle.treefiles.proofs.load.load.Goals as goal
 
 pub returns-in_err-needed : goal.returns-in_err-needed
 returns-in_err-needed c =
     let p = err_from_is_err_and c.from_residual.result c.from_residual.ensures.1 in
-    let lists = c.args.lists.now in
-    let entries = c.args.entries.now in
-    let f = c.in_err-needed.field-0.0 in
-    let e = checked-fault _ f c.in_err-needed.ensures in
-    subst (λ (r : Result Loaded Fault). Loads c.args.file.now lists lists entries entries r) (sym (p.1 ∙ ap (λ (g : Fault). Err g) p.2))
-    (refuses c.args.file.now lists entries f (sym (ap (answer (length lists) (length entries)) e)))
+    check-refuses c.args.file.now c.args.lists.now c.args.entries.now _ c.in_err-needed.ensures _ (p.1 ∙ ap (λ (f : Fault). Err f) p.2)
 
-pub returns-then-needed-lists : goal.returns-then-needed-lists
-returns-then-needed-lists c =
-    let lists = c.args.lists.now in
-    let entries = c.args.entries.now in
-    let t = checked-tree _ c.in_ok-needed.needed c.in_ok-needed.ensures in
-    let n = ap (λ (l : Loaded). l.lists) t.2 in
-    let short : length lists < length t.0 = omega (arith, n, c.if-needed-lists.true) in
-    let e = ap (answer (length lists) (length entries)) t.1 ∙ few-lists (length lists) (length entries) t.0 short in
-    refuses c.args.file.now lists entries c.new.result
-    (ap (λ (g : Fault). Err g) (c.new.ensures ∙ ap (λ (k : ℕ). fault LoadMemoryShort 1 k) n) ∙ sym e)
+pub returns-in_err-ask_room : goal.returns-in_err-ask_room
+returns-in_err-ask_room c =
+    let p = err_from_is_err_and c.from_residual-in_err-ask_room.result c.from_residual-in_err-ask_room.ensures.1 in
+    let short = c.in_err-ask_room.ensures in
+    lists-refuse c.args.file.now c.args.lists.now c.args.entries.now c.in_ok-needed.needed c.in_ok-needed.ensures short.0 _
+    (p.1 ∙ ap (λ (f : Fault). Err f) (p.2 ∙ short.1))
 
-pub returns-then-needed-entries : goal.returns-then-needed-entries
-returns-then-needed-entries c =
-    let lists = c.args.lists.now in
-    let entries = c.args.entries.now in
-    let t = checked-tree _ c.in_ok-needed.needed c.in_ok-needed.ensures in
-    let n = ap (λ (l : Loaded). l.lists) t.2 in
-    let m = ap (λ (l : Loaded). l.entries) t.2 in
-    let room : length t.0 ≤ length lists = omega (arith, n, c.if-needed-lists.false) in
-    let e = ap (answer (length lists) (length entries)) t.1 ∙ few-entries (length lists) (length entries) t.0 room (omega (arith, m, c.if-needed-entries.true)) in
-    refuses c.args.file.now lists entries c.new-then-needed-entries.result
-    (ap (λ (g : Fault). Err g) (c.new-then-needed-entries.ensures ∙ ap (λ (k : ℕ). fault LoadMemoryShort 2 k) m) ∙ sym e)
+pub returns-in_err-ask_room-2 : goal.returns-in_err-ask_room-2
+returns-in_err-ask_room-2 c =
+    let p = err_from_is_err_and c.from_residual-in_err-ask_room-2.result c.from_residual-in_err-ask_room-2.ensures.1 in
+    let short = c.in_err-ask_room-2.ensures in
+    entries-refuse c.args.file.now c.args.lists.now c.args.entries.now c.in_ok-needed.needed c.in_ok-needed.ensures c.in_ok-ask_room.ensures short.0 _
+    (p.1 ∙ ap (λ (f : Fault). Err f) (p.2 ∙ short.1))
 
 pub fill-requires : goal.fill-requires
 fill-requires c =
-    let t = checked-tree _ c.in_ok-needed.needed c.in_ok-needed.ensures in
-    let n = ap (λ (l : Loaded). l.lists) t.2 in
-    let m = ap (λ (l : Loaded). l.entries) t.2 in
-    record {
-      tree = t.0;
-      holds = t.1;
-      list_room = omega (arith, n, c.if-needed-lists.false);
-      entry_room = omega (arith, m, c.if-needed-entries.false);
-    }
+    room-found c.args.file.now c.args.lists.now c.args.entries.now c.in_ok-needed.needed c.in_ok-needed.ensures c.in_ok-ask_room.ensures c.in_ok-ask_room-2.ensures
 
 pub returns : goal.returns
 returns c =
-    let file = c.args.file.now in
-    let lists = c.args.lists.now in
-    let entries = c.args.entries.now in
-    let t = checked-tree _ c.in_ok-needed.needed c.in_ok-needed.ensures in
-    let n = ap (λ (l : Loaded). l.lists) t.2 in
-    let m = ap (λ (l : Loaded). l.entries) t.2 in
-    let a : length t.0 ≤ length lists = omega (arith, n, c.if-needed-lists.false) in
-    let b : length (all_entries t.0) ≤ length entries = omega (arith, m, c.if-needed-entries.false) in
-    let bytes : Bytes file = λ k. (c.type_inv.file k).fits in
-    subst (λ (l : Loaded). Loads file lists c.fill.new.lists entries c.fill.new.entries (Ok l)) (sym t.2)
-    (grants file lists entries c.fill.new.lists c.fill.new.entries t.0 bytes t.1 a b (c.fill.ensures (record { tree = t.0; holds = t.1; list_room = a; entry_room = b })))
+    let bytes : Bytes c.args.file.now = All-from_get_or IsByte _ 0 (λ k _. (c.type_inv.file k).fits) in
+    fills c.args.file.now c.args.lists.now c.args.entries.now c.in_ok-needed.needed c.in_ok-needed.ensures bytes c.in_ok-ask_room.ensures c.in_ok-ask_room-2.ensures
+    _ c.fill.new.self.lists.now _ c.fill.new.self.entries.now (search rules) (search rules) c.fill.ensures.holds

@@ -1,7 +1,9 @@
-use Rattle.std.proofs.Common.{◌≡◌}
-use Rattle.register.specs.Answers.{span, filled_up}
-use Rattle.walking.specs.Between.{spans_between}
+use Rattle.std.proofs.Common.{◌≡◌, map}
+use Rattle.std.specs.List.{range_with_len}
+use Rattle.register.specs.Answers.{filled_up}
+use Rattle.walking.specs.Between.{span_at}
+use Rattle.walking.specs.Reached.{no_span}
 use Rattle.walking.proofs.offer.spans_between.Given as goal
 
 abbrev pub invariant-loop-i : goal.invariant-loop-i
-invariant-loop-i l = l.spans ≡ filled_up 9 (span 0 0 0) (spans_between l.low.stops l.high.stops l.i)
+invariant-loop-i l = l.spans ≡ filled_up 9 no_span (map (span_at l.low l.high) (range_with_len 0 l.i))

@@ -1,5 +1,6 @@
-use Rattle.std.proofs.Common.{sym, refl, ◌∙◌}
+use Rattle.std.proofs.Common.{sym, refl, ap, ◌∙◌}
 use Rattle.orders.specs.Places.{passed}
+use Rattle.walking.specs.Reached.{arrived}
 use Rattle.walking.proofs.Halving.{halved_none, halved-right, halved-left, halved-all}
 use Rattle.walking.proofs.search.root_search.Goals as goal
 
@@ -18,5 +19,5 @@ loop-lo-preserved g c =
 
 pub returns : goal.returns
 returns g c =
-    halved-all (passed g.K.KeyOrder.order c.args.side c.args.sought.now) c.args.keys.now c.loop-lo.lo c.loop-lo.hi c.loop-lo.comparisons
-    c.loop-lo-test.false c.loop-lo.invariant
+    ap arrived (halved-all (passed g.K.KeyOrder.order c.args.side c.args.sought.now) c.args.keys.now c.loop-lo.lo c.loop-lo.hi c.loop-lo.comparisons
+    c.loop-lo-test.false c.loop-lo.invariant)

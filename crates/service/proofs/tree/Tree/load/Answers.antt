@@ -1,14 +1,8 @@
-use Rattle.std.proofs.Common.{sym, ◌∙◌}
+use Rattle.std.proofs.Common.{◌∙◌}
 use Rattle.std.proofs.lemmas.List.{with_items_is}
-use Rattle.std.proofs.lemmas.Result.{err_from_is_err_and}
 use Rattle.std.specs.Vec.{with_items}
 use Rattle.service.proofs.Loading.{not-refused, loaded}
 use Rattle.service.proofs.tree.Tree.load.Goals as goal
-
-pub returns-in_err-needed : goal.returns-in_err-needed
-returns-in_err-needed c =
-    let p = err_from_is_err_and c.from_residual.result c.from_residual.ensures.1 in
-    rw (p.1, p.2) (sym c.in_err-needed.ensures)
 
 pub returns-in_err-load : goal.returns-in_err-load
 returns-in_err-load c =

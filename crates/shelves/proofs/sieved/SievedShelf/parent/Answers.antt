@@ -1,9 +1,7 @@
-use Rattle.std.proofs.Common.{rules}
+use Rattle.std.proofs.Common.{arith}
+use Rattle.std.proofs.lemmas.Grind.{common_steps}
 use Rattle.shelves.proofs.Points.{sieved-at, sieved-past}
 use Rattle.shelves.proofs.sieved.SievedShelf.parent.Goals as goal
 
-pub returns-then-list-lt-SIEVE_LISTS : goal.returns-then-list-lt-SIEVE_LISTS
-returns-then-list-lt-SIEVE_LISTS g c = search (rules, sieved-at)
-
-pub returns-else-list-lt-SIEVE_LISTS : goal.returns-else-list-lt-SIEVE_LISTS
-returns-else-list-lt-SIEVE_LISTS g c = search (rules, sieved-past)
+pub returns : goal.returns
+returns g c = grind (arith, common_steps, sieved-at, sieved-past)

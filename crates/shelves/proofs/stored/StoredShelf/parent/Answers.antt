@@ -1,9 +1,8 @@
-use Rattle.std.proofs.Common.{rules}
-use Rattle.shelves.proofs.Branches.{stored_at, stored_past}
+use Rattle.std.proofs.Common.{arith}
+use Rattle.std.proofs.lemmas.Grind.{common_steps}
+use Rattle.std.proofs.lemmas.Option.{gets}
+use Rattle.shelves.proofs.Branches.{stored-parents}
 use Rattle.shelves.proofs.stored.StoredShelf.parent.Goals as goal
 
-pub returns-then-list-self : goal.returns-then-list-self
-returns-then-list-self g c = search (rules, stored_at)
-
-pub returns-else-list-self : goal.returns-else-list-self
-returns-else-list-self g c = search (rules, stored_past)
+pub returns : goal.returns
+returns g c = grind (arith, common_steps, gets, stored-parents)

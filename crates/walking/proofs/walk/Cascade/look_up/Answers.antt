@@ -1,9 +1,10 @@
+use Rattle.std.proofs.Common.{◌∙◌}
+use Rattle.walking.proofs.Descending.{is-path, walked-is}
 use Rattle.walking.proofs.walk.Cascade.look_up.Goals as goal
 
 pub walk-requires : goal.walk-requires
-walk-requires g c =
-    let p = c.requires in
-    record { tree = p.tree; laid = p.laid; end = c.args.end; there = p.there; is = c.path_to-from.ensures.where_laid p.tree p.laid p.there }
+walk-requires g c = is-path c.args.self.now.laid.shaped c.args.end c.requires c.lists.result.now (c.lists.ensures ∙ c.path_to.ensures)
 
 pub returns : goal.returns
-returns g c = λ t laid there. c.walk.ensures t c.args.end laid there (c.path_to-from.ensures.where_laid t laid there)
+returns g c =
+    walked-is c.args.self.now.laid.shaped c.args.end c.requires c.lists.result.now (c.lists.ensures ∙ c.path_to.ensures) g.K.KeyOrder.order c.args.side c.args.key.now c.walk.result c.walk.ensures
