@@ -1,6 +1,9 @@
 // Lists and points that the sequence program and the tests share. Keys are days, and payloads are marks.
 #![tactic(auto)]
 
+ghost use Rattle.std.specs.Prelude.{◌≡◌};
+ghost use Rattle.samples.specs.Days.{day_of, entry_of, point_of, nine};
+
 use dated::key::DatedKey;
 use orders::entry::Entry;
 use shelves::rows::{ListRow, Point};
@@ -8,7 +11,9 @@ use shelves::slots::SIEVE_LISTS;
 use terms::marks::Marks;
 
 // The key of a day.
-pub fn day(number: u32) -> DatedKey {
+pub fn day(number: u32) -> DatedKey
+    ensures { result ≡ day_of number }
+{
     DatedKey {
         day: number,
         serial: 0,
@@ -16,7 +21,9 @@ pub fn day(number: u32) -> DatedKey {
 }
 
 // An entry of a day.
-pub fn entry(number: u32, bits: u32) -> Entry<DatedKey, Marks> {
+pub fn entry(number: u32, bits: u32) -> Entry<DatedKey, Marks>
+    ensures { result ≡ entry_of number bits }
+{
     Entry {
         key: day(number),
         payload: Marks { bits },
@@ -24,7 +31,9 @@ pub fn entry(number: u32, bits: u32) -> Entry<DatedKey, Marks> {
 }
 
 // A point of a day. Where each has a bit of its own, joined marks tell which points are in them.
-pub fn point(slot: u8, number: u32, bits: u32) -> Point<DatedKey, Marks> {
+pub fn point(slot: u8, number: u32, bits: u32) -> Point<DatedKey, Marks>
+    ensures { result ≡ point_of slot number bits }
+{
     Point {
         slot,
         key: day(number),
@@ -57,7 +66,9 @@ pub const PAYLOADS: usize = 64;
 
 // Points in order of their days: on both edges of the rectangle from slot 5 to 9 and day 3 to 7, next to it, of equal days, and in
 // the outermost slots.
-pub fn points() -> [Point<DatedKey, Marks>; 9] {
+pub fn points() -> [Point<DatedKey, Marks>; 9]
+    ensures { result ≡ nine }
+{
     [
         point(5, 2, 1),
         point(0, 3, 2),
