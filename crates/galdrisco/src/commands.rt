@@ -56,20 +56,20 @@ fn check_all<'c>(
     first: &'c str,
     others: &mut env::Args,
 ) -> Result<(), Trouble<'c>> {
-    let mut all = told(rt, check(rt, first));
+    let mut all = checked(rt, first)?;
     for file in others {
-        all = all.and(told(rt, check(rt, file.as_str())));
+        all = all.and(checked(rt, file.as_str())?);
     }
     all
 }
 
-// Says what stood in the way, so that it need not be said again.
-fn told(rt: &HostRuntime, done: Result<(), Trouble<'_>>) -> Result<(), Trouble<'static>> {
-    let Err(trouble) = done else {
-        return Ok(());
+// Checks a file, and says what stood in its way, so that it need not be said again. What cannot be printed ends it.
+fn checked(rt: &HostRuntime, file: &str) -> io::Result<Result<(), Trouble<'static>>> {
+    let Err(trouble) = check(rt, file) else {
+        return Ok(Ok(()));
     };
     trouble.tell(rt)?;
-    Err(Trouble::Told)
+    Ok(Err(Trouble::Told))
 }
 
 fn check<'c>(rt: &HostRuntime, file: &'c str) -> Result<(), Trouble<'c>> {
