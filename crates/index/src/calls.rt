@@ -82,7 +82,7 @@ impl<'m, K: KeyOrder, P: Payload> Index<'m, K, P> {
 
     // What its walks read.
     fn cascade(&self) -> Cascade<'_, K, P>
-        ensures tree { result.layout.now.tree ≡ self.now.layout.tree }
+        ensures tree { result.tree.now ≡ self.now.layout.tree }
         ensures payloads { result.payloads.now ≡ self.now.memory.payloads.now }
     {
         Cascade {
@@ -90,7 +90,7 @@ impl<'m, K: KeyOrder, P: Payload> Index<'m, K, P> {
             keys: &self.memory.keys[..],
             rows: &self.memory.rows[..],
             payloads: &self.memory.payloads[..],
-            layout: &self.layout,
+            tree: &self.layout.tree,
         }
     }
 

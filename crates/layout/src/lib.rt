@@ -10,13 +10,13 @@ use crate::tree::{Augmented, HasTree, NoLists, ShelfLists, Tree};
 use orders::KeyOrder;
 use shelves::Shelf;
 
-mod tree;
+pub mod tree;
 
 // That `augmented` are the augmented lists of `tree`, and that every list of `tree` is in order. No code outside this
 // crate can make one but by `empty` and `of_shelf`.
 #[derive(Drop)]
 pub struct Layout<K: KeyOrder> {
-    tree: Tree<K>,
+    pub tree: Tree<K>,
     augmented: Augmented<K>,
     pub ghost augmented_of_tree: { augmented ≡ augmented_lists K.order tree },
     pub ghost in_order: { all_in_order K.order tree ≡ true },

@@ -40,6 +40,11 @@ impl<K> Drop for Tree<K> {
     }
 }
 
+// Nothing of a key crosses with it. Both are proved in proofs/tree/Tree/TheSendSync.
+unsafe impl<K> Send for Tree<K> {}
+
+unsafe impl<K> Sync for Tree<K> {}
+
 // The augmented lists of a key tree.
 #[derive(Drop)]
 pub struct Augmented<K: KeyOrder> {
@@ -71,4 +76,11 @@ pub(crate) struct ShelfLists<'s, S>(pub(crate) &'s S);
 
 impl<'s, S: Shelf> HasTree<S::Key> for ShelfLists<'s, S> {
     ghost tree = { λ s. key_tree (S.meaning s.0.now) };
+}
+
+// The key tree of a shelf, in order or not: a walk asks only whose augmented lists lie in memory.
+pub fn tree_of<S: Shelf>(shelf: &S) -> Tree<S::Key>
+    ensures { result ≡ key_tree (S.meaning shelf.now) }
+{
+    Tree::of(&ShelfLists(shelf))
 }

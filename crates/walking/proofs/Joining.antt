@@ -3,7 +3,7 @@ use Rattle.std.proofs.Common.{◌≡◌, ℕ, suc, ◌+◌, ◌-◌, ◌*◌, �
 use Rattle.std.proofs.lemmas.List.{append-nil, append_assoc, length-append, length-take-le, length-drop, map_more, take_all}
 use Rattle.std.proofs.lemmas.List.Sums.{sum_by_more, sum_by-take-le}
 use Rattle.orders.specs.declared.KeyOrder.{Ghosts}
-use Rattle.cascade.specs.Trees.{KeyTree}
+use Rattle.cascade.specs.Trees.{KeyTree, all_keys}
 use Rattle.register.specs.Memory.{joined_lists}
 use Rattle.register.specs.declared.answers.Span.{Span}
 use Rattle.plan.specs.declared.table.ListRun.{ListRun}
@@ -66,7 +66,7 @@ module _ {P : Type 0} (neutral : P) (joined : P → P → P) (runs : List ListRu
 
 module _ {K P : Type 0} {g : Ghosts K} (c : Cascade K P g) where
   abbrev t : KeyTree K
-  t = c.layout.now.tree
+  t = c.tree.now
 
   abbrev runs : List ListRun
   runs = c.table.now.runs
@@ -76,12 +76,11 @@ module _ {K P : Type 0} {g : Ghosts K} (c : Cascade K P g) where
     pub within : to_of runs s ≤ length c.payloads.now
     pub small : to_of runs s ≤ 40000
 
-  pub span-held : (s : Span) → SpanOf t s → Held s
-  span-held s o =
+  pub span-held : all_keys t ≤ length c.payloads.now → (s : Span) → SpanOf t s → Held s
+  span-held h s o =
       let f = o.forward in
       let w = o.within in
       let n = c.laid.shaped.entries in
-      let h = c.laid.loaded in
       let first = first-is c s.list o.there in
       let more = sum_by_more (λ b. length b.1) t s.list (0, []) o.there in
       let all = sum_by-take-le (λ b. length b.1) t (s.list + 1) in

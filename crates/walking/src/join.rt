@@ -1,5 +1,6 @@
 // The joined payload of the entries in spans.
-ghost use Rattle.std.specs.Prelude.{◌≡◌, length, fold};
+ghost use Rattle.std.specs.Prelude.{◌≡◌, ◌≤◌, length, fold};
+ghost use Rattle.cascade.specs.Trees.{all_keys};
 ghost use Rattle.walking.specs.Walked.{spans_payloads};
 ghost use Rattle.walking.specs.Reached.{Spanned};
 
@@ -22,8 +23,9 @@ fn join_all<P: Payload>(payloads: &[P], start: P) -> P
 impl<'a, K: KeyOrder, P: Payload> Cascade<'a, K, P> {
     // The number of the entries in spans, and their joined payload.
     pub(crate) fn join_spans(&self, spans: &[Span]) -> (usize, P)
-        requires { Spanned self.now.layout.now.tree spans.now }
-        ensures { result ≡ (length (spans_payloads self.now.layout.now.tree self.now.payloads.now spans.now), fold P.joined P.neutral (spans_payloads self.now.layout.now.tree self.now.payloads.now spans.now)) }
+        requires spanned { Spanned self.now.tree.now spans.now }
+        requires held { all_keys self.now.tree.now ≤ length self.now.payloads.now }
+        ensures { result ≡ (length (spans_payloads self.now.tree.now self.now.payloads.now spans.now), fold P.joined P.neutral (spans_payloads self.now.tree.now self.now.payloads.now spans.now)) }
     {
         let mut entries = 0;
         let mut payload = P::neutral_payload();

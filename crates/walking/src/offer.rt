@@ -1,5 +1,6 @@
 // Offers: all entries along a path whose key is the same as a sought one.
-ghost use Rattle.std.specs.Prelude.{◌≡◌, ◌<◌, length};
+ghost use Rattle.std.specs.Prelude.{◌≡◌, ◌<◌, ◌≤◌, length};
+ghost use Rattle.cascade.specs.Trees.{all_keys};
 ghost use Rattle.walking.specs.Walked.{offered_at};
 ghost use Rattle.walking.specs.Between.{spans_between};
 
@@ -27,8 +28,9 @@ fn spans_between(low: &[Stop; MOST_STOPS], high: &[Stop; MOST_STOPS]) -> [Span; 
 impl<'a, K: KeyOrder, P: Payload> Cascade<'a, K, P> {
     // An offer at list `end`: a low and a high lookup, and what lies between them.
     pub fn offer(&self, end: usize, key: &K) -> Offer<P>
-        requires { end < length self.now.layout.now.tree }
-        ensures { result ≡ offered_at K.order P.neutral P.joined self.now.layout.now.tree self.now.payloads.now end key.now }
+        requires there { end < length self.now.tree.now }
+        requires held { all_keys self.now.tree.now ≤ length self.now.payloads.now }
+        ensures { result ≡ offered_at K.order P.neutral P.joined self.now.tree.now self.now.payloads.now end key.now }
     {
         let path = self.path_to(end);
         let low = self.walk(path.lists(), key, Side::Low);

@@ -1,6 +1,7 @@
 // Ranges over the sieve's lists.
-ghost use Rattle.std.specs.Prelude.{◌≡◌, length};
+ghost use Rattle.std.specs.Prelude.{◌≡◌, ◌≤◌, length};
 ghost use Rattle.cascade.specs.SlotTree.{SieveShaped, chosen_lists, range_comparisons};
+ghost use Rattle.cascade.specs.Trees.{all_keys};
 ghost use Rattle.register.specs.Answers.{filled_up};
 ghost use Rattle.walking.specs.Reached.{no_span};
 ghost use Rattle.walking.specs.Ranged.{ranged_at};
@@ -21,9 +22,9 @@ impl<'a, K: KeyOrder, P: Payload> Cascade<'a, K, P> {
         slots: SlotRange,
         keys: &KeyRange<'_, K>,
     ) -> ([(usize, usize); SIEVE_LISTS], usize)
-        requires { SieveShaped self.now.layout.now.tree }
-        ensures are { PlacesOf K.order self.now.layout.now.tree slots.first slots.last keys.now.low.now keys.now.high.now result.0 }
-        ensures counted { result.1 ≡ range_comparisons K.order self.now.layout.now.tree slots.first slots.last keys.now.low.now keys.now.high.now }
+        requires { SieveShaped self.now.tree.now }
+        ensures are { PlacesOf K.order self.now.tree.now slots.first slots.last keys.now.low.now keys.now.high.now result.0 }
+        ensures counted { result.1 ≡ range_comparisons K.order self.now.tree.now slots.first slots.last keys.now.low.now keys.now.high.now }
     {
         let mut places = [(0usize, 0usize); SIEVE_LISTS];
         let mut comparisons = 0;
@@ -46,9 +47,9 @@ impl<'a, K: KeyOrder, P: Payload> Cascade<'a, K, P> {
         slots: SlotRange,
         places: &[(usize, usize); SIEVE_LISTS],
     ) -> ([Span; MOST_SPANS], usize)
-        requires sieve { SieveShaped self.now.layout.now.tree }
-        requires within { PlacesWithin K.order self.now.layout.now.tree slots.first slots.last places.now }
-        ensures spans { result.0 ≡ filled_up 10 no_span (spans_at K.order self.now.layout.now.tree slots.first slots.last places.now) }
+        requires sieve { SieveShaped self.now.tree.now }
+        requires within { PlacesWithin K.order self.now.tree.now slots.first slots.last places.now }
+        ensures spans { result.0 ≡ filled_up 10 no_span (spans_at K.order self.now.tree.now slots.first slots.last places.now) }
         ensures used { result.1 ≡ length (chosen_lists slots.first slots.last) }
     {
         let mut spans = [Span::default(); MOST_SPANS];
@@ -68,8 +69,9 @@ impl<'a, K: KeyOrder, P: Payload> Cascade<'a, K, P> {
 
     // A range over slots and keys.
     pub fn range(&self, slots: SlotRange, keys: &KeyRange<'_, K>) -> Range<P>
-        requires { SieveShaped self.now.layout.now.tree }
-        ensures { result ≡ ranged_at K.order P.neutral P.joined self.now.layout.now.tree self.now.payloads.now slots.first slots.last keys.now.low.now keys.now.high.now }
+        requires sieve { SieveShaped self.now.tree.now }
+        requires held { all_keys self.now.tree.now ≤ length self.now.payloads.now }
+        ensures { result ≡ ranged_at K.order P.neutral P.joined self.now.tree.now self.now.payloads.now slots.first slots.last keys.now.low.now keys.now.high.now }
     {
         let (places, comparisons) = self.survey(slots, keys);
         let (spans, used) = self.chosen_spans(slots, &places);

@@ -1,8 +1,8 @@
-use Rattle.index.proofs.Facts.{runs-out, rows_out}
-use Rattle.index.proofs.Sounding.{shape_of}
+use Rattle.index.proofs.Sounding.{laid_of}
 use Rattle.index.proofs.Index.cascade.Goals as goal
 
 pub invariant_of-result : goal.invariant_of-result
 invariant_of-result g c =
     let i = c.args.self.now in
-    record { laid = record { shaped = shape_of i; tabled = record { lists = i.lists; runs = runs-out i.runs }; keyed = i.keyed; rowed = rows_out i.rowed; loaded = i.loaded } }
+    let l = laid_of i g.K.KeyOrder.order i.layout.augmented_of_tree in
+    record { laid = record { shaped = l.shaped; tabled = l.tabled; keyed = l.key_front; rowed = l.row_front } }

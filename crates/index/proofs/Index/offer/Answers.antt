@@ -10,8 +10,8 @@ returns-then-list-self g c = record {
   counts = tt;
 }
 
-pub offer-requires : goal.offer-requires
-offer-requires g c = subst (λ u. c.args.list < length u) (sym c.cascade.ensures.tree) (there g.K.KeyOrder.order c.args.self.now c.args.list c.if-list-self.false)
+pub offer-requires-clause-there : goal.offer-requires-clause-there
+offer-requires-clause-there g c = subst (λ u. c.args.list < length u) (sym c.cascade.ensures.tree) (there g.K.KeyOrder.order c.args.self.now c.args.list c.if-list-self.false)
 
 pub returns : goal.returns
 returns g c =

@@ -24,8 +24,8 @@ returns-in_default-new-clause-answer g c =
     ∙ no_keys g.K.KeyOrder.order c.args.self.now c.is_sieve.result c.is_sieve.ensures c.args.a c.args.b c.args.low.now c.args.high.now g.P.Payload.neutral g.P.Payload.joined
     c.if-not-is_sieve.false (sym c.new-2.ensures.found ∙ ap is_some c.in-Some.is) (sym c.new-3.ensures.found ∙ ap is_some c.in_default-new.is)
 
-pub range-requires : goal.range-requires
-range-requires g c =
+pub range-requires-clause-sieve : goal.range-requires-clause-sieve
+range-requires-clause-sieve g c =
     subst SieveShaped (sym c.cascade.ensures.tree)
     (shape g.K.KeyOrder.order c.args.self.now c.is_sieve.result c.is_sieve.ensures c.args.a c.args.b c.args.low.now c.args.high.now c.if-not-is_sieve.false)
 

@@ -15,7 +15,7 @@ use Rattle.walking.proofs.walk.Cascade.arrive.Goals as goal
 pub returns-then-list-eq0 : goal.returns-then-list-eq0
 returns-then-list-eq0 g c =
     let order = g.K.KeyOrder.order in
-    let t = c.args.self.now.layout.now.tree in
+    let t = c.args.self.now.tree.now in
     let f = passed order c.args.side c.args.key.now in
     let e = c.if-list-eq0.true in
     c.root_search.ensures
@@ -30,7 +30,7 @@ pub row-row-requires : goal.row-row-requires
 row-row-requires g c =
     let order = g.K.KeyOrder.order in
     let self = c.args.self.now in
-    let t = self.layout.now.tree in
+    let t = self.tree.now in
     let list = c.args.list in
     let n = c.if-list-eq0.false in
     let below : 0 < list = omega arith in
@@ -60,7 +60,7 @@ pub returns : goal.returns
 returns g c =
     let order = g.K.KeyOrder.order in
     let self = c.args.self.now in
-    let t = self.layout.now.tree in
+    let t = self.tree.now in
     let list = c.args.list in
     let above = c.args.above in
     let side = c.args.side in

@@ -32,7 +32,7 @@ loop-list-preserved g c =
     let used = c.loop-list.used in
     let spans = c.loop-list.spans in
     let was = c.loop-list.invariant in
-    let f = placed_span g.K.KeyOrder.order c.args.self.now.layout.now.tree c.args.places.now in
+    let f = placed_span g.K.KeyOrder.order c.args.self.now.tree.now c.args.places.now in
     elim c.if-chooses.branch [
       | then-chooses w ↦
           let e : chosen a b v ≡ true = sym c.chooses.ensures ∙ w.if-chooses.true in
@@ -56,6 +56,6 @@ returns g c =
     let b = c.args.slots.last in
     let e : c.loop-list.list ≡ 127 = let h = c.loop-list-test.false in let k = c.loop-list.auto.list-end in omega arith in
     record {
-      spans = c.loop-list.invariant.filled ∙ ap (λ v. filled_up 10 no_span (map (placed_span g.K.KeyOrder.order c.args.self.now.layout.now.tree c.args.places.now) (chosen_before a b v))) e;
+      spans = c.loop-list.invariant.filled ∙ ap (λ v. filled_up 10 no_span (map (placed_span g.K.KeyOrder.order c.args.self.now.tree.now c.args.places.now) (chosen_before a b v))) e;
       used = c.loop-list.invariant.count ∙ ap (λ v. length (chosen_before a b v)) e;
     }

@@ -3,13 +3,13 @@ use Rattle.walking.proofs.Lying.{run_small, keys-end, keys-are}
 use Rattle.walking.proofs.walk.Cascade.keys_of.Goals as goal
 
 pub overflow_add-result : goal.overflow_add-result
-overflow_add-result g c = let s = run_small c.args.self.now g.K.KeyOrder.order c.args.self.now.layout.now.augmented_of_tree c.args.list c.requires in record { fits = omega arith }
+overflow_add-result g c = let s = run_small c.args.self.now c.args.list c.requires in record { fits = omega arith }
 
 pub offset_bounds-self-run : goal.offset_bounds-self-run
-offset_bounds-self-run g c = let s = keys-end c.args.self.now g.K.KeyOrder.order c.args.self.now.layout.now.augmented_of_tree c.args.list c.requires in omega arith
+offset_bounds-self-run g c = let s = keys-end c.args.self.now c.args.list c.requires in omega arith
 
 pub slice_bounds-result-end : goal.slice_bounds-result-end
-slice_bounds-result-end g c = let s = keys-end c.args.self.now g.K.KeyOrder.order c.args.self.now.layout.now.augmented_of_tree c.args.list c.requires in search rules
+slice_bounds-result-end g c = let s = keys-end c.args.self.now c.args.list c.requires in search rules
 
 pub returns : goal.returns
-returns g c = keys-are c.args.self.now g.K.KeyOrder.order c.args.self.now.layout.now.augmented_of_tree c.args.list c.requires
+returns g c = keys-are c.args.self.now c.args.list c.requires

@@ -7,13 +7,13 @@ use Rattle.walking.proofs.walk.Cascade.range.Goals as goal
 
 pub chosen_spans-used-requires-clause-within : goal.chosen_spans-used-requires-clause-within
 chosen_spans-used-requires-clause-within g c =
-    places-within g.K.KeyOrder.order c.args.self.now.layout.now.tree c.args.keys.now.low.now c.args.keys.now.high.now c.args.slots.first c.args.slots.last
-    c.survey-comparisons.result.0 c.survey-comparisons.ensures.are g.met.K.KeyOrder.lawful c.args.self.now.laid.shaped.smaller c.requires
+    places-within g.K.KeyOrder.order c.args.self.now.tree.now c.args.keys.now.low.now c.args.keys.now.high.now c.args.slots.first c.args.slots.last
+    c.survey-comparisons.result.0 c.survey-comparisons.ensures.are g.met.K.KeyOrder.lawful c.args.self.now.laid.shaped.smaller c.requires.sieve
 
-pub join_spans-entries-requires : goal.join_spans-entries-requires
-join_spans-entries-requires g c =
+pub join_spans-entries-requires-clause-spanned : goal.join_spans-entries-requires-clause-spanned
+join_spans-entries-requires-clause-spanned g c =
     let order = g.K.KeyOrder.order in
-    let t = c.args.self.now.layout.now.tree in
+    let t = c.args.self.now.tree.now in
     let low = c.args.keys.now.low.now in
     let high = c.args.keys.now.high.now in
     let s = c.args.slots in
@@ -23,13 +23,13 @@ join_spans-entries-requires g c =
     record {
       few = taken-few r.1 r.0 (ranged-few order t s.first s.last low high r.0 r.1 is s.forward s.few);
       each = subst (λ xs. (i : ℕ) → i < length xs → SpanOf t (get_or xs i no_span)) (sym taken)
-          (each-ranged order t s.first s.last low high c.requires g.met.K.KeyOrder.lawful c.args.self.now.laid.shaped.smaller c.args.keys.now.upward);
+          (each-ranged order t s.first s.last low high c.requires.sieve g.met.K.KeyOrder.lawful c.args.self.now.laid.shaped.smaller c.args.keys.now.upward);
     }
 
 pub returns : goal.returns
 returns g c =
     let order = g.K.KeyOrder.order in
-    let t = c.args.self.now.layout.now.tree in
+    let t = c.args.self.now.tree.now in
     let low = c.args.keys.now.low.now in
     let high = c.args.keys.now.high.now in
     let s = c.args.slots in

@@ -9,24 +9,24 @@ use Rattle.walking.proofs.walk.Cascade.survey.Goals.{then-visits, else-visits}
 pub arrive-first-requires-clause-from_parent : goal.arrive-first-requires-clause-from_parent
 arrive-first-requires-clause-from_parent g c = λ below.
     ap (λ k. (get_or c.loop-list.places k (0, 0)).0) c.parent_of.ensures
-    ∙ ap (λ p. p.0) (seen-above g.K.KeyOrder.order c.args.self.now.layout.now.tree c.args.keys.now.low.now c.args.keys.now.high.now c.args.slots.first c.args.slots.last
+    ∙ ap (λ p. p.0) (seen-above g.K.KeyOrder.order c.args.self.now.tree.now c.args.keys.now.low.now c.args.keys.now.high.now c.args.slots.first c.args.slots.last
     c.requires c.loop-list.list c.loop-list.comparisons c.loop-list.places c.loop-list-test.true c.loop-list.invariant.seen (sym c.visits.ensures ∙ c.if-visits.true) below)
 
 pub arrive-after-requires-clause-from_parent : goal.arrive-after-requires-clause-from_parent
 arrive-after-requires-clause-from_parent g c = λ below.
     ap (λ k. (get_or c.loop-list.places k (0, 0)).1) c.parent_of.ensures
-    ∙ ap (λ p. p.1) (seen-above g.K.KeyOrder.order c.args.self.now.layout.now.tree c.args.keys.now.low.now c.args.keys.now.high.now c.args.slots.first c.args.slots.last
+    ∙ ap (λ p. p.1) (seen-above g.K.KeyOrder.order c.args.self.now.tree.now c.args.keys.now.low.now c.args.keys.now.high.now c.args.slots.first c.args.slots.last
     c.requires c.loop-list.list c.loop-list.comparisons c.loop-list.places c.loop-list-test.true c.loop-list.invariant.seen (sym c.visits.ensures ∙ c.if-visits.true) below)
 
 pub overflow_add-comparisons : goal.overflow_add-comparisons
 overflow_add-comparisons g c =
-    let few = both-few g.K.KeyOrder.order c.args.self.now.layout.now.tree c.args.keys.now.low.now c.args.keys.now.high.now g.met.K.KeyOrder.lawful c.args.self.now.laid.shaped c.requires c.loop-list.list
+    let few = both-few g.K.KeyOrder.order c.args.self.now.tree.now c.args.keys.now.low.now c.args.keys.now.high.now g.met.K.KeyOrder.lawful c.args.self.now.laid.shaped c.requires c.loop-list.list
     c.arrive-first.result c.arrive-after.result c.arrive-first.ensures c.arrive-after.ensures in
     record { fits = omega arith }
 
 pub overflow_add-comparisons-then-visits : goal.overflow_add-comparisons-then-visits
 overflow_add-comparisons-then-visits g c =
-    let few = both-few g.K.KeyOrder.order c.args.self.now.layout.now.tree c.args.keys.now.low.now c.args.keys.now.high.now g.met.K.KeyOrder.lawful c.args.self.now.laid.shaped c.requires c.loop-list.list
+    let few = both-few g.K.KeyOrder.order c.args.self.now.tree.now c.args.keys.now.low.now c.args.keys.now.high.now g.met.K.KeyOrder.lawful c.args.self.now.laid.shaped c.requires c.loop-list.list
     c.arrive-first.result c.arrive-after.result c.arrive-first.ensures c.arrive-after.ensures in
     let so_far = c.loop-list.invariant.seen.few in
     let l = c.loop-list-test.true in
@@ -35,7 +35,7 @@ overflow_add-comparisons-then-visits g c =
 pub loop-list-preserved : goal.loop-list-preserved
 loop-list-preserved g c =
     let order = g.K.KeyOrder.order in
-    let t = c.args.self.now.layout.now.tree in
+    let t = c.args.self.now.tree.now in
     let a = c.args.slots.first in
     let b = c.args.slots.last in
     let low = c.args.keys.now.low.now in
@@ -76,4 +76,4 @@ pub returns-clause-counted : goal.returns-clause-counted
 returns-clause-counted g c =
     let e : c.loop-list.list ≡ 127 = let k = c.loop-list.auto.list-end in let h = c.loop-list-test.false in omega arith in
     c.loop-list.invariant.seen.count
-    ∙ ap (λ n. sum_by (λ u. (sides_at g.K.KeyOrder.order c.args.self.now.layout.now.tree c.args.keys.now.low.now c.args.keys.now.high.now u).1) (filter (visited c.args.slots.first c.args.slots.last) (range_with_len 0 n))) e
+    ∙ ap (λ n. sum_by (λ u. (sides_at g.K.KeyOrder.order c.args.self.now.tree.now c.args.keys.now.low.now c.args.keys.now.high.now u).1) (filter (visited c.args.slots.first c.args.slots.last) (range_with_len 0 n))) e

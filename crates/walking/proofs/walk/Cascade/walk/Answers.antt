@@ -8,7 +8,7 @@ use Rattle.walking.proofs.walk.Cascade.walk.Goals as goal
 pub loop-i-init : goal.loop-i-init
 loop-i-init g c =
     let order = g.K.KeyOrder.order in
-    let t = c.args.self.now.layout.now.tree in
+    let t = c.args.self.now.tree.now in
     subst (λ none. Descended order t c.args.side c.args.key.now c.args.lists.now 0 0 0 (replicate 9 none)) (sym (ap₂ stop c.default-stops.ensures.0 c.default-stops.ensures.1))
     (descended_none order t c.args.side c.args.key.now c.args.lists.now)
 
@@ -52,5 +52,5 @@ loop-i-preserved g c =
 pub returns : goal.returns
 returns g c =
     let k = c.loop-i.auto.i-end in
-    gathered-all g.K.KeyOrder.order c.args.self.now.layout.now.tree c.args.side c.args.key.now c.args.lists.now (end_of c.args.lists.now) c.loop-i.i c.loop-i.comparisons c.loop-i.stops
+    gathered-all g.K.KeyOrder.order c.args.self.now.tree.now c.args.side c.args.key.now c.args.lists.now (end_of c.args.lists.now) c.loop-i.i c.loop-i.comparisons c.loop-i.stops
     c.requires.is (omega arith) c.loop-i.invariant.gathered
