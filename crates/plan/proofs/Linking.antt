@@ -3,14 +3,14 @@ use Rattle.std.proofs.Common.{◌≡◌, ℕ, zero, suc, ◌+◌, ◌-◌, ◌/�
 use Rattle.std.proofs.lemmas.List.Sums.{sum_by_more}
 use Rattle.std.proofs.lemmas.Bool.{eqb-true}
 use Rattle.faults.specs.Refusals.{fault}
-use Rattle.faults.specs.declared.Reason.TheVariants.{ParentNotSmaller, TooManyChildren, TooManyEntries}
+use Rattle.faults.specs.declared.Reason.TheVariants.{ParentNotSmaller, TooDeep, TooManyChildren, TooManyEntries}
 use Rattle.cascade.specs.Trees.{KeyTree, ParentsSmaller, parent_of, keys_at, ordinal, depth_of, all_keys, augmented}
 use Rattle.cascade.proofs.Augmenting.{ordinal-count, lengths}
 use Rattle.cascade.proofs.Numbering.{count-among}
 use Rattle.cascade.proofs.Walking.{depth-step}
-use Rattle.register.specs.Limits.{most_children, most_entries}
-use Rattle.register.specs.Questions.{ask, parent_fault, child_fault, entry_fault}
-use Rattle.plan.specs.Columns.{no_run, count_in, Holds, Smaller, Depths, children_before, length_by, parents_asked, entries_asked}
+use Rattle.register.specs.Limits.{most_edges, most_children, most_entries}
+use Rattle.register.specs.Questions.{ask, parent_fault, depth_fault, child_fault, entry_fault}
+use Rattle.plan.specs.Columns.{no_run, count_in, Holds, Smaller, Depths, children_before, length_by, parents_asked, most_asked, entries_asked}
 use Rattle.plan.specs.Lists.{children_asked}
 use Rattle.plan.specs.declared.table.ListRun.{ListRun}
 use Rattle.plan.proofs.Asking.{each_same}
@@ -39,6 +39,11 @@ module _ {K : Type 0} (t : KeyTree K) where
       each_same (λ v. ask (ltb (ordinal t v) most_children) (fault TooManyChildren v 0)) (λ v. ask (ltb (os v) most_children) (fault TooManyChildren v 0)) 0 (length t)
       (λ v l m. ap (λ k. ask (ltb k most_children) (fault TooManyChildren v 0)) (sym (h v (omega arith))))
 
+  pub depths-asked : (ds : ℕ → ℕ) → Holds (length t) (depth_of t) ds → depth_fault t ≡ most_asked TooDeep most_edges (length t) ds
+  depths-asked ds h =
+      each_same (λ v. ask (leb (depth_of t v) most_edges) (fault TooDeep v 0)) (λ v. ask (leb (ds v) most_edges) (fault TooDeep v 0)) 0 (length t)
+      (λ v l m. ap (λ k. ask (leb k most_edges) (fault TooDeep v 0)) (sym (h v (omega arith))))
+
   pub entries-asked : (runs : List ListRun) → length t ≤ length runs → Holds (length t) (λ v. length (keys_at t v)) (count_in runs) → entry_fault t ≡ entries_asked (length t) runs
   entries-asked runs l h =
       each_same (λ v. ask (leb (all_keys (take (suc v) t)) most_entries) (fault TooManyEntries v 0)) (λ v. ask (leb (sum_by (λ (r : ListRun). r.count) (take (suc v) runs)) most_entries) (fault TooManyEntries v 0)) 0 (length t)
@@ -53,6 +58,21 @@ module _ {K : Type 0} (t : KeyTree K) where
       root = refl;
       below = λ v z h. let d = depth-step t smaller v z h in let r = ap (depth_of t) (reads v h) in omega arith;
     }
+
+    -- no other column is one
+    pub depths-hold : ParentsSmaller t → (ds : ℕ → ℕ) → Depths (length t) ps ds → Holds (length t) (depth_of t) ds
+    depths-hold smaller ds deep v h = go v v (omega arith) h
+      where
+        go : (m u : ℕ) → u ≤ m → u < length t → ds u ≡ depth_of t u
+        go m zero k l = deep.root
+        go zero (suc u) k l = absurd (omega arith)
+        go (suc m) (suc u) k l =
+            let s = smaller (suc u) (omega arith) l in
+            let ih = go m (parent_of t (suc u)) (omega arith) (omega arith) in
+            let b = deep.below (suc u) (omega arith) l in
+            let r : ds (ps (suc u)) ≡ ds (parent_of t (suc u)) = ap ds (reads (suc u) l) in
+            let d = depth-step t smaller (suc u) (omega arith) l in
+            omega arith
 
     pub ordinals-hold : (os : ℕ → ℕ) → Holds (length t) (λ v. children_before ps v (ps v)) os → Holds (length t) (ordinal t) os
     ordinals-hold os h zero l = h 0 l

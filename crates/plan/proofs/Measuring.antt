@@ -6,8 +6,8 @@ use Rattle.faults.specs.declared.Reason.TheVariants.{TooDeep}
 use Rattle.cascade.specs.Trees.{KeyTree, parent_of, ordinal, depth_of}
 use Rattle.register.specs.Limits.{most_lists, most_edges}
 use Rattle.register.specs.Questions.{or_else, count_fault, parent_fault, depth_fault, child_fault, entry_fault}
-use Rattle.plan.specs.Columns.{no_run, nth_run, parent_in, Holds, Smaller, Depths, count_asked, parents_asked, most_asked, entries_asked, run_read, shape_fault}
-use Rattle.plan.specs.Lists.{Read, Reads, before, children_asked, Renumbered, Numbers, Measures}
+use Rattle.plan.specs.Columns.{no_run, nth_run, parent_in, Holds, Smaller, Depths, count_asked, parents_asked, most_asked, entries_asked, run_read, run_counted, shape_fault}
+use Rattle.plan.specs.Lists.{Read, Reads, before, children_asked, Renumbered, Counted, Numbers, Measures}
 use Rattle.plan.specs.declared.lists.Lists.{Lists}
 use Rattle.plan.specs.declared.table.ListRun.{ListRun}
 use Rattle.plan.proofs.Asking.{Grants, Refuses, granted-none, refused-some, or-stop, or-next}
@@ -109,33 +109,40 @@ module _ {K : Type 0} (t : KeyTree K) (ls : Lists) (granted : (count_fault t ≡
           let m = made.1.each (suc u) (omega arith) (omega arith) in
           cc
 
-      len-here : new.len ≡ length t
-      len-here = made.1.len ∙ granted.2.lists
+      -- the lists with their entries
+      module _ (full : Lists) (filled : Counted t new full) where
+        known-full : (v : ℕ) → v < length t → nth_run full.runs v ≡ run_counted t (record (run_read t v) { ordinal = ordinal t v }) v
+        known-full v h =
+            let c = counted t granted.0 in
+            filled.each v (omega arith) ∙ ap (λ r. run_counted t r v) (known v h)
 
-      numbers : Numbers t new
-      numbers = record {
-        lists = len-here;
-        size = made.1.size;
-        parents = λ v h. ap (λ (r : ListRun). r.parent) (known v h);
-        ordinals = λ v h. ap (λ (r : ListRun). r.ordinal) (known v h);
-        lengths = λ v h. ap (λ (r : ListRun). r.length) (known v h);
-        counts = λ v h. ap (λ (r : ListRun). r.count) (known v h);
-      }
+        len-here : full.len ≡ length t
+        len-here = filled.len ∙ made.1.len ∙ granted.2.lists
 
-      entries-linked : entry_fault t ≡ entries_asked new.len new.runs
-      entries-linked =
-          let c = (counted t granted.0).1 in
-          let z = made.1.size in
-          entries-asked t new.runs (omega arith) numbers.counts ∙ ap (λ k. entries_asked k new.runs) (sym len-here)
+        numbers : Numbers t full
+        numbers = record {
+          lists = len-here;
+          size = filled.size;
+          parents = λ v h. ap (λ (r : ListRun). r.parent) (known-full v h);
+          ordinals = λ v h. ap (λ (r : ListRun). r.ordinal) (known-full v h);
+          lengths = λ v h. ap (λ (r : ListRun). r.length) (known-full v h);
+          counts = λ v h. ap (λ (r : ListRun). r.count) (known-full v h);
+        }
 
-      rest : {x : Option Fault} → entry_fault t ≡ x → shape_fault t ≡ x
-      rest {x} e =
-          later
-          (or-next (depth_fault t) (or_else (child_fault t) (entry_fault t)) x depths_none
-          (or-next (child_fault t) (entry_fault t) x (children-linked ∙ made.0) e))
+        entries-linked : entry_fault t ≡ entries_asked full.len full.runs
+        entries-linked =
+            let c = (counted t granted.0).1 in
+            let z = filled.size in
+            entries-asked t full.runs (omega arith) numbers.counts ∙ ap (λ k. entries_asked k full.runs) (sym len-here)
 
-      pub no-entries : (f : Fault) → Refuses (entries_asked new.len new.runs) f → shape_fault t ≡ Some f
-      no-entries f e = rest (entries-linked ∙ refused-some (entries_asked new.len new.runs) f e)
+        rest : {x : Option Fault} → entry_fault t ≡ x → shape_fault t ≡ x
+        rest {x} e =
+            later
+            (or-next (depth_fault t) (or_else (child_fault t) (entry_fault t)) x depths_none
+            (or-next (child_fault t) (entry_fault t) x (children-linked ∙ made.0) e))
 
-      pub measured : Grants (entries_asked new.len new.runs) → (shape_fault t ≡ None) × Numbers t new
-      measured e = (rest (entries-linked ∙ granted-none (entries_asked new.len new.runs) e), numbers)
+        pub no-entries : (f : Fault) → Refuses (entries_asked full.len full.runs) f → shape_fault t ≡ Some f
+        no-entries f e = rest (entries-linked ∙ refused-some (entries_asked full.len full.runs) f e)
+
+        pub measured : Grants (entries_asked full.len full.runs) → (shape_fault t ≡ None) × Numbers t full
+        measured e = (rest (entries-linked ∙ granted-none (entries_asked full.len full.runs) e), numbers)

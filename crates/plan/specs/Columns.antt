@@ -73,9 +73,13 @@ length_by n parents own lengths v = own v + sum_by (λ w. lengths w / 4) (filter
 abbrev pub run_by : List ListRun → ℕ → ListRun
 run_by runs v = record (nth_run runs v) { start = sum_by (λ r. r.length) (take v runs); first = sum_by (λ r. r.count) (take v runs) }
 
--- what is read of list v: its augmented list has its own keys at first
+-- what is read of list v
 abbrev pub run_read : {K : Type 0} → KeyTree K → ℕ → ListRun
-run_read t v = record { parent = parent_of t v; ordinal = 0; start = 0; length = length (keys_at t v); first = 0; count = length (keys_at t v) }
+run_read t v = record { parent = parent_of t v; ordinal = 0; start = 0; length = 0; first = 0; count = 0 }
+
+-- its run with its entries: its augmented list has its own keys at first
+abbrev pub run_counted : {K : Type 0} → KeyTree K → ListRun → ℕ → ListRun
+run_counted t run v = record run { length = length (keys_at t v); count = length (keys_at t v) }
 
 -- what is asked of the lists besides the order of their keys
 abbrev pub shape_fault : {K : Type 0} → KeyTree K → Option Fault

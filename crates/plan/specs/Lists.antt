@@ -7,7 +7,7 @@ use Rattle.faults.specs.declared.Reason.TheVariants.{TooManyChildren}
 use Rattle.cascade.specs.Trees.{KeyTree, parent_of, keys_at, ordinal}
 use Rattle.register.specs.Limits.{most_lists, most_children}
 use Rattle.register.specs.Questions.{ask, or_else, ask_each, count_fault, parent_fault}
-use Rattle.plan.specs.Columns.{nth_run, parent_in, ordinal_in, length_in, count_in, Holds, children_before, run_read, shape_fault}
+use Rattle.plan.specs.Columns.{nth_run, parent_in, ordinal_in, length_in, count_in, Holds, children_before, run_read, run_counted, shape_fault}
 use Rattle.plan.specs.declared.lists.Lists.{Lists}
 
 -- the lists as they are read
@@ -39,6 +39,12 @@ module _ (old : Lists) where
   abbrev pub Numbered : Result Lists Fault → Type 0
   Numbered (Ok new) = (children_asked old.len before ≡ None) × Renumbered new
   Numbered (Err f) = children_asked old.len before ≡ Some f
+
+-- the lists with how many entries they have
+pub record Counted {K : Type 0} (t : KeyTree K) (old new : Lists) : Type 0 where
+  pub len : new.len ≡ old.len
+  pub size : length new.runs ≡ most_lists
+  pub each : (v : ℕ) → v < most_lists → nth_run new.runs v ≡ run_counted t (nth_run old.runs v) v
 
 -- lists have their numbers
 pub record Numbers {K : Type 0} (t : KeyTree K) (ls : Lists) : Type 0 where

@@ -23,8 +23,9 @@ fn measure<S: Shelf>(shelf: &S) -> Result<Lists, Fault>
     let lists = Lists::read(shelf)?;
     lists.ask_depths()?;
     let numbered = lists.numbered()?;
-    numbered.ask_entries()?;
-    Ok(numbered)
+    let counted = numbered.counted(shelf);
+    counted.ask_entries()?;
+    Ok(counted)
 }
 
 // Asks every question about the lists of a shelf, and gives the table of the runs that they take in memory.

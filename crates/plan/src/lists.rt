@@ -20,18 +20,15 @@ pub struct Lists {
     pub ghost smaller: { Smaller len (parent_in runs) },
 }
 
-// What a shelf says of each list, also of those that do not exist. An augmented list has its own keys at first.
+// The parent that a shelf names of each list, also of those that do not exist.
 fn read_runs<S: Shelf>(shelf: &S) -> [ListRun; MOST_LISTS]
     ensures size { length result ≡ most_lists }
     ensures each { (v : ℕ) → v < most_lists → nth_run result v ≡ run_read (key_tree (S.meaning shelf.now)) v }
 {
     let mut runs = [NO_RUN; MOST_LISTS];
     for (v, run) in runs.iter_mut().enumerate() {
-        let count = shelf.count(v);
         *run = ListRun {
             parent: shelf.parent(v).unwrap_or(0),
-            length: count,
-            count,
             ..NO_RUN
         };
     }
@@ -44,9 +41,9 @@ impl Lists {
     ghost use Rattle.register.specs.Limits.{most_edges, most_entries};
     ghost use Rattle.register.specs.Questions.{unless};
     ghost use Rattle.plan.specs.Columns.{length_in, Holds, Depths, most_asked, entries_asked, length_by, run_by};
-    ghost use Rattle.plan.specs.Lists.{Reads, Numbered};
+    ghost use Rattle.plan.specs.Lists.{Reads, Numbered, Counted};
 
-    // Reads the lists of a shelf: their parents and how many entries they have.
+    // Reads the lists of a shelf: their parents.
     pub fn read<S: Shelf>(shelf: &S) -> Result<Lists, Fault>
         ensures { Reads (key_tree (S.meaning shelf.now)) result }
     {
@@ -95,6 +92,26 @@ impl Lists {
             len: self.len,
             runs,
         })
+    }
+
+    // The same lists with how many entries a shelf says they have. It is asked only here, of lists that are shaped right: an
+    // answer can cost it a walk over lists. An augmented list has its own keys at first.
+    pub fn counted<S: Shelf>(&self, shelf: &S) -> Lists
+        ensures { Counted (key_tree (S.meaning shelf.now)) self.now result }
+    {
+        let mut runs = self.runs;
+        for (v, run) in runs.iter_mut().enumerate() {
+            let count = shelf.count(v);
+            *run = ListRun {
+                length: count,
+                count,
+                ..*run
+            };
+        }
+        Lists {
+            len: self.len,
+            runs,
+        }
     }
 
     // Do the entries, list after list, stay within 40,000?

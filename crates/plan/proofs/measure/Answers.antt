@@ -30,11 +30,11 @@ returns-in_err-ask_entries g c =
     let read = c.in_ok-lists.ensures in
     let f = c.in_err-ask_entries.field-0.0 in
     let p = err_from_is_err_and c.from_residual-in_err-ask_entries.result c.from_residual-in_err-ask_entries.ensures.1 in
-    refused t c.from_residual-in_err-ask_entries.result f (p.1 ∙ ap (λ e. Err e) p.2) (no-entries t ls read (c.in_ok-ask_depths.ensures (depth_of t) (deep t ls read)) c.in_ok-numbered.numbered c.in_ok-numbered.ensures f c.in_err-ask_entries.ensures)
+    refused t c.from_residual-in_err-ask_entries.result f (p.1 ∙ ap (λ e. Err e) p.2) (no-entries t ls read (c.in_ok-ask_depths.ensures (depth_of t) (deep t ls read)) c.in_ok-numbered.numbered c.in_ok-numbered.ensures c.counted-counted.result c.counted-counted.ensures f c.in_err-ask_entries.ensures)
 
 pub returns : goal.returns
 returns g c =
     let t = key_tree (g.S.Shelf.meaning c.args.shelf.now) in
     let ls = c.in_ok-lists.lists in
     let read = c.in_ok-lists.ensures in
-    measured t ls read (c.in_ok-ask_depths.ensures (depth_of t) (deep t ls read)) c.in_ok-numbered.numbered c.in_ok-numbered.ensures c.in_ok-ask_entries.ensures
+    measured t ls read (c.in_ok-ask_depths.ensures (depth_of t) (deep t ls read)) c.in_ok-numbered.numbered c.in_ok-numbered.ensures c.counted-counted.result c.counted-counted.ensures c.in_ok-ask_entries.ensures
