@@ -1,5 +1,5 @@
 -- The lists of a stored shelf, by their numbers.
-use Rattle.std.proofs.Common.{◌≡◌, ℕ, zero, suc, ◌+◌, ◌-◌, ◌^◌, ◌<◌, ◌≤◌, min, List, [], ◌∷◌, length, take, drop, Some, None, sum_by, sym, refl, ap, ◌∙◌, arith, rules}
+use Rattle.std.proofs.Common.{◌≡◌, ℕ, zero, suc, ◌-◌, ◌≤◌, min, List, [], ◌∷◌, length, take, drop, Some, None, sum_by, sym, refl, ap, ◌∙◌, arith, rules}
 use Rattle.std.proofs.lemmas.List.{drop-drop, same_lists, places}
 use Rattle.std.proofs.lemmas.Option.{none-some, same_Some, slice_get_past}
 use Rattle.std.proofs.lemmas.List.Sums.{sum_by-cons}
@@ -42,9 +42,9 @@ module _ {K P : Type 0} where
 pub part_cut : {X : Type 0} (xs : List X) (start count from taken : ℕ) → from ≡ min start (length xs) → taken ≡ min count (length (take (length xs - from) (drop from xs))) → take taken (take (length xs - from) (drop from xs)) ≡ take count (drop start xs)
 part_cut xs start count from taken e t = same_lists _ _ (search (rules, places)) (λ k d h. grind (arith, places))
 
--- a fold that never passes the limit ends at what the rows claim, at most the limit
-pub claims_folded : (limit : ℕ) (rows : List ListRow) (a n : ℕ) → limit < 2 ^ 64 → a ≡ min n limit → fold (λ k row. min (min (k + row.count) (2 ^ 64 - 1)) limit) a rows ≡ min (n + claims rows) limit
-claims_folded limit [] a n h e = omega arith
-claims_folded limit (r ∷ rows) a n h e =
-    let more = claims_folded limit rows (min (min (a + r.count) (2 ^ 64 - 1)) limit) (n + r.count) h (omega arith) in
+-- taking each row's count off what is left ends at what is left of it after all that the rows claim
+pub claims_folded : (rows : List ListRow) (left : ℕ) → fold (λ k row. k - row.count) left rows ≡ left - claims rows
+claims_folded [] left = omega arith
+claims_folded (r ∷ rows) left =
+    let more = claims_folded rows (left - r.count) in
     omega (arith, more, sum_by-cons (λ row. row.count) r rows)

@@ -41,10 +41,10 @@ impl<'a, K, P> Stored<'a, K, P> {
 fn claimed(rows: &[ListRow], limit: usize) -> usize
     ensures { result ≡ min (sum_by (λ row. row.count) rows.now) limit }
 {
-    rows.iter().fold(
-        0,
-        |total: usize, row| total.saturating_add(row.count).min(limit),
-    )
+    limit
+        - rows
+            .iter()
+            .fold(limit, |left: usize, row| left.saturating_sub(row.count))
 }
 
 impl<'a, K: KeyOrder, P: Payload> Shelf for Stored<'a, K, P> {
