@@ -55,9 +55,10 @@ impl<'f> Loader<'f> {
         if self.stage.has_ended(rest) {
             return Ok(None);
         }
-        let incomplete = Fault::new(Reason::FieldIncomplete, self.at, 0);
-        let field = Field::first(self.at, rest).ok_or(incomplete)?;
-        self.take(field).map(Some)
+        let Some(field) = Field::first(self.at, rest) else {
+            return Err(Fault::new(Reason::FieldIncomplete, self.at, 0));
+        };
+        Ok(Some(self.take(field)?))
     }
 
     // Takes a field: may its tag come now, does its length suit the tag, is what it says right.
