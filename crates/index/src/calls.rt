@@ -1,13 +1,15 @@
 // The calls on an index.
-ghost use Rattle.std.specs.Prelude.{◌≡◌, take, IfOk};
+ghost use Rattle.std.specs.Prelude.{◌≡◌, true, take, IfOk};
 ghost use Rattle.register.specs.Questions.{unless, build_fault, place_fault};
-ghost use Rattle.layout.specs.KeyTrees.{key_tree};
+ghost use Rattle.cascade.specs.Trees.{augmented_lists};
+ghost use Rattle.layout.specs.KeyTrees.{key_tree, all_in_order};
 ghost use Rattle.register.specs.Answers.{map_ok, lookup_read, offer_read, range_read};
 ghost use Rattle.register.specs.Register.{look_up_answer, offer_answer, range_answer};
 ghost use Rattle.index.specs.Counts.{LookupCounts, OfferCounts, RangeCounts};
 ghost use Rattle.index.specs.Held.{machine_of};
 ghost use Rattle.index.specs.Rectangles.{HoldRectangle};
 ghost use Rattle.index.specs.Machine.{Sound, sizes_of, blank, cleared, after_amend, after_build};
+ghost use Rattle.walking.specs.InMemory.{InMemory};
 
 use crate::sieve::is_sieve;
 use crate::{Index, Memory};
@@ -80,10 +82,12 @@ impl<'m, K: KeyOrder, P: Payload> Index<'m, K, P> {
         Ok(())
     }
 
-    // What its walks read.
+    // What its walks read: lists in order that lie in memory, and a place in payload memory for each entry.
     fn cascade(&self) -> Cascade<'_, K, P>
         ensures tree { result.tree.now ≡ self.now.layout.tree }
         ensures payloads { result.payloads.now ≡ self.now.memory.payloads.now }
+        ensures in_memory { InMemory result.tree.now (augmented_lists K.order result.tree.now) result.table.now result.keys.now result.rows.now result.payloads.now }
+        ensures in_order { all_in_order K.order result.tree.now ≡ true }
     {
         Cascade {
             table: &self.table,

@@ -3,7 +3,7 @@ ghost use Rattle.std.specs.Prelude.{◌≡◌, ◌<◌, ◌≤◌, length, drop,
 ghost use Rattle.cascade.specs.Trees.{keys_of, own_source, parent_of, path, augmented_lists, augmented};
 ghost use Rattle.cascade.specs.Rows.{row_at, tally};
 ghost use Rattle.cascade.specs.Walks.{arrival};
-ghost use Rattle.walking.specs.InMemory.{InMemory, in_memory_once};
+ghost use Rattle.walking.specs.InMemory.{ListsInMemory, lists_in_memory_once};
 ghost use Rattle.walking.specs.Walked.{looked_up};
 ghost use Rattle.walking.specs.Reached.{arrived, end_of, IsPath};
 
@@ -25,7 +25,7 @@ pub struct Cascade<'a, K: KeyOrder, P> {
     pub rows: &'a [Row],
     pub payloads: &'a [P],
     pub tree: &'a Tree<K>,
-    pub ghost laid: { InMemory tree.now (augmented_lists K.order tree.now) table.now keys.now rows.now } by { in_memory_once tree.now (augmented_lists K.order tree.now) table.now keys.now rows.now K.code },
+    pub ghost laid: { ListsInMemory tree.now (augmented_lists K.order tree.now) table.now keys.now rows.now } by { lists_in_memory_once tree.now (augmented_lists K.order tree.now) table.now keys.now rows.now K.code },
 }
 
 impl<'a, K: KeyOrder, P> Clone for Cascade<'a, K, P> {
